@@ -1,0 +1,10 @@
+pub mod Masks
+pub mod BitText
+pub mod Infos
+pub mod FaceView
+pub mod FaceKids
+pub mod Levels
+pub mod CellFaults
+pub mod Fit
+pub mod Tree
+pub mod Export

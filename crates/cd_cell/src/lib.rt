@@ -1,0 +1,18 @@
+//! Cells of the TON blockchain: faces of cells, masks, and the hashes and depths at the levels 0 to 3.
+#![tactic(auto)]
+
+mod bits;
+mod cell_fault;
+mod digest;
+mod face;
+mod info;
+mod kind;
+mod mask;
+
+pub use bits::Bits;
+pub use cell_fault::CellFault;
+pub use digest::{Hash32, Sha};
+pub use face::Face;
+pub use info::ChildInfo;
+pub use kind::Kind;
+pub use mask::Mask;
