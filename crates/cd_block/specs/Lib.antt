@@ -1,0 +1,6 @@
+pub mod Shard
+pub mod Block
+pub mod Spelling
+pub mod Description
+pub mod Lineage
+pub mod Expiry

@@ -1,0 +1,65 @@
+ghost use Rattle.std.specs.Prelude.{◌≡◌};
+
+use crate::block::BlockId;
+use cd_base::Hash256;
+use std::marker::Model;
+use thiserror::Error;
+
+/// The names of some blocks, seen as a list. Made from a `Vec`, and giving it back, with no memory.
+#[derive(Debug, Drop)]
+pub struct BlockIds {
+    ids: Vec<BlockId>,
+}
+
+impl Model for BlockIds {
+    ghost use Rattle.std.specs.Prelude.{List};
+    ghost use Rattle.cd_block.specs.declared.block.BlockId.{BlockId};
+
+    ghost Value = { List BlockId };
+
+    ghost view = { λ a. a.ids.items };
+}
+
+impl From<Vec<BlockId>> for BlockIds {
+    ghost from_gives = { λ vec ids. ids ≡ vec.items };
+
+    fn from(ids: Vec<BlockId>) -> BlockIds {
+        BlockIds { ids }
+    }
+}
+
+/// What the store keeps of a block beside its state's cells.
+#[derive(Debug, Drop)]
+pub struct Descr {
+    pub id: BlockId,
+    /// None for a zero state, one for a block, and two after a merge of two shards.
+    pub parents: BlockIds,
+    /// The hash of the state's root cell.
+    pub root: Hash256,
+    /// The depth of the state's tree, 0 to 1024.
+    pub depth: u16,
+    /// The shard tops of a masterchain block, at most 64.
+    pub tops: BlockIds,
+    /// The block is expired and waits for the end of its last pin.
+    pub leaving: bool,
+}
+
+/// Why bytes are no description: the first fault from left to right.
+#[derive(Clone, Copy, Debug, PartialEq, Eq, Error)]
+pub enum DescrFault {
+    /// The first byte isn't 01.
+    #[error("the description has another version")]
+    Version,
+    /// A field passes the end.
+    #[error("the description ends early")]
+    Cut,
+    /// Bytes stand behind the last field.
+    #[error("bytes stand behind the description")]
+    Extra,
+    /// A byte or a number is outside its range, or tops stand on a block that is none of the masterchain.
+    #[error("a field of the description is outside its range")]
+    Form,
+    /// Memory ran out.
+    #[error("out of memory")]
+    Memory,
+}

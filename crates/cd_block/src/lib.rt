@@ -1,0 +1,12 @@
+//! Names of shards and blocks, descriptions of stored blocks, and the rules of their lineage and expiry.
+#![tactic(auto)]
+
+mod ancestry;
+mod block;
+mod description;
+mod shard;
+
+pub use ancestry::LineageFault;
+pub use block::BlockId;
+pub use description::{BlockIds, Descr, DescrFault};
+pub use shard::ShardId;
