@@ -1,3 +1,5 @@
+ghost use Rattle.std.specs.Prelude.{◌≡◌, ◌≤◌, length};
+
 use crate::{Bits, ChildInfo};
 use std::marker::Model;
 
@@ -24,4 +26,14 @@ impl Model for Face {
     ghost invariant = { λ f. AreKids f.refs f.kids };
 
     ghost inverse = { λ f. record { exotic = f.exotic; bits = f.bits; refs = length f.kids; kids = four_kids f.kids } };
+}
+
+impl Face {
+    /// What each child shows of itself, in the order of their places: at most four.
+    pub fn kids(&self) -> &[ChildInfo]
+        ensures value { result.now ≡ self.now.kids }
+        ensures few { length self.now.kids ≤ 4 }
+    {
+        &self.kids[..self.refs as usize]
+    }
 }
