@@ -2,7 +2,23 @@
 #![tactic(auto)]
 
 mod answers;
+mod counts;
 mod hash;
+mod memory_sink;
+mod memory_source;
+mod read_all_fault;
+mod sink;
+mod source;
+mod std_adapters;
+mod whole;
 
 pub use answers::{Failed, Memory};
+pub use counts::raised;
 pub use hash::Hash256;
+pub use memory_sink::{MemorySink, SteadySink};
+pub use memory_source::{MemorySource, SteadySource};
+pub use read_all_fault::ReadAllFault;
+pub use sink::Sink;
+pub use source::Source;
+pub use std_adapters::{StdSink, StdSource};
+pub use whole::{read_all, write_all};

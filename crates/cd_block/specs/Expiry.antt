@@ -1,5 +1,5 @@
 -- Which blocks the shard tops of a masterchain block have passed.
-use Rattle.std.specs.Prelude.{ℕ, nat_lt, ◌&&◌, Bool, List, if◌then◌else◌}
+use Rattle.std.specs.Prelude.{nat_lt, ◌&&◌, Bool, List, if◌then◌else◌}
 use Rattle.std.specs.List.{filter, list_any, list_all}
 use Rattle.cd_block.specs.declared.block.BlockId.{BlockId}
 use Rattle.cd_block.specs.Shard.{meets, is_master}

@@ -1,5 +1,5 @@
 -- Shards by the prefixes of their numbers.
-use Rattle.std.specs.Prelude.{ℕ, zero, suc, ◌+◌, ◌^◌, ◌==◌, ◌&&◌, ◌||◌, nat_eq, Bool, true, false, negsuc, List, [], ◌∷◌, length, Option, Some, None, if◌then◌else◌}
+use Rattle.std.specs.Prelude.{ℕ, zero, suc, ◌+◌, ◌==◌, ◌&&◌, ◌||◌, nat_eq, Bool, false, negsuc, List, [], ◌∷◌, length, Option, Some, None, if◌then◌else◌}
 use Rattle.std.specs.Int.{is_negative, bit_at}
 use Rattle.std.specs.List.{before_last, starts_with}
 use Rattle.std.specs.Ordering.{on, then_cmp, bool_cmp, int_cmp, int_eq, nat_cmp}

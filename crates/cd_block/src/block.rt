@@ -1,3 +1,6 @@
+ghost use Rattle.std.specs.Prelude.{◌≡◌};
+ghost use Rattle.cd_block.specs.Block.{key_of};
+
 use crate::shard::ShardId;
 use cd_base::Hash256;
 
@@ -11,4 +14,20 @@ pub struct BlockId {
     pub seqno: u32,
     pub root: Hash256,
     pub file: Hash256,
+}
+
+impl BlockId {
+    /// The block's key: workchain in two's complement (4 bytes), shard (8), seqno (4), root hash, file hash.
+    #[tactic(auto, unfolding(crate::specs::Block::key_of, crate::specs::Block::shard_key))]
+    pub fn to_key(&self) -> [u8; 80]
+        ensures { result ≡ key_of self.now }
+    {
+        let mut key = [0; 80];
+        key[..4].copy_from_slice(&self.shard_id.workchain.to_be_bytes());
+        key[4..12].copy_from_slice(&self.shard_id.shard.to_be_bytes());
+        key[12..16].copy_from_slice(&self.seqno.to_be_bytes());
+        key[16..48].copy_from_slice(&self.root.0);
+        key[48..].copy_from_slice(&self.file.0);
+        key
+    }
 }

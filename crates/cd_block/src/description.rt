@@ -1,7 +1,8 @@
-ghost use Rattle.std.specs.Prelude.{◌≡◌};
+ghost use Rattle.std.specs.Prelude.{◌≡◌, ◌==◌, [], length};
 
 use crate::block::BlockId;
 use cd_base::Hash256;
+use std::alloc::Global;
 use std::marker::Model;
 use thiserror::Error;
 
@@ -18,6 +19,42 @@ impl Model for BlockIds {
     ghost Value = { List BlockId };
 
     ghost view = { λ a. a.ids.items };
+}
+
+impl BlockIds {
+    /// No ids. Takes no memory.
+    pub fn new(alloc: Global) -> BlockIds
+        ensures { result ≡ [] }
+    {
+        BlockIds {
+            ids: Vec::new(alloc),
+        }
+    }
+
+    pub fn as_slice(&self) -> &[BlockId]
+        ensures { result.now ≡ self.now }
+    {
+        self.ids.as_slice()
+    }
+
+    pub fn len(&self) -> usize
+        ensures { result ≡ length self.now }
+    {
+        self.ids.len()
+    }
+
+    pub fn is_empty(&self) -> bool
+        ensures { result ≡ (length self.now == 0) }
+    {
+        self.ids.is_empty()
+    }
+
+    /// The ids as the `Vec` that they are kept in.
+    pub fn into_vec(self) -> Vec<BlockId>
+        ensures { result.items ≡ self }
+    {
+        self.ids
+    }
 }
 
 impl From<Vec<BlockId>> for BlockIds {

@@ -5,8 +5,15 @@ mod ancestry;
 mod block;
 mod description;
 mod shard;
+mod spelling;
+mod writing;
 
 pub use ancestry::LineageFault;
 pub use block::BlockId;
 pub use description::{BlockIds, Descr, DescrFault};
 pub use shard::ShardId;
+pub use spelling::print_id;
+pub use writing::encode_descr;
+
+#[cfg(test)]
+mod tests;

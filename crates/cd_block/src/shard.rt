@@ -28,8 +28,12 @@ impl Ord for ShardId {
     ghost matches_eq = { Prim.search (comparing, rules) };
 
     fn cmp(&self, other: &ShardId) -> Ordering {
-        let sign = self.workchain.is_negative().cmp(&other.workchain.is_negative());
-        sign.then(self.workchain.cmp(&other.workchain)).then(self.shard.cmp(&other.shard))
+        let sign = self
+            .workchain
+            .is_negative()
+            .cmp(&other.workchain.is_negative());
+        sign.then(self.workchain.cmp(&other.workchain))
+            .then(self.shard.cmp(&other.shard))
     }
 }
 
