@@ -1,36 +1,23 @@
 -- Elements of a list, by cases on the list.
-use Rattle.std.proofs.Common.{◌≡◌, ℕ, ◌≤◌, List, [], ◌∷◌, map, subst, ◌⊎◌, inl, inr, ⊎_elim, arith}
+use Rattle.std.proofs.Common.{◌≡◌, ℕ, ◌≤◌, List, [], ◌∷◌, map, subst, ⊎_elim}
 use Rattle.std.specs.List.{Contains, sum_by}
 use Rattle.std.proofs.lemmas.List.Sums.{get_or-le-sum_by}
-use Rattle.std.proofs.lemmas.List.Elements.{Contains-append_cases, Contains-append_right, Contains-append_left, Contains-push, Contains-push_cases}
-
-pub Contains-nil : {X : Type 0} (x : X) → Contains [] x → ⊥
-Contains-nil x h = absurd (omega (arith, h.1))
-
--- the first element or a later one
-pub Contains-cons_cases : {X : Type 0} (x : X) (xs : List X) (y : X) → Contains (x ∷ xs) y → (x ≡ y) ⊎ Contains xs y
-Contains-cons_cases x xs y h = ⊎_elim (λ first. ⊎_elim (λ none. absurd (Contains-nil y none)) inl (Contains-push_cases [] x y first)) inr (Contains-append_cases (x ∷ []) xs y h)
-
-pub Contains-first : {X : Type 0} (x : X) (xs : List X) → Contains (x ∷ xs) x
-Contains-first x xs = Contains-append_left (x ∷ []) xs x (Contains-push [] x)
-
-pub Contains-later : {X : Type 0} (x : X) (xs : List X) (y : X) → Contains xs y → Contains (x ∷ xs) y
-Contains-later x xs y h = Contains-append_right (x ∷ []) xs y h
+use Rattle.cd_cell.proofs.Subtrees.{Contains-first, Contains-later, Contains-cases, not-in-nil}
 
 -- an element of a mapped list is made of an element
 pub Contains-map_cases : {X Y : Type 0} (f : X → Y) (xs : List X) (y : Y) → Contains (map f xs) y → (x : X) × Contains xs x × (f x ≡ y)
-Contains-map_cases f [] y h = absurd (Contains-nil y h)
+Contains-map_cases f [] y h = absurd (not-in-nil y h)
 Contains-map_cases f (x ∷ xs) y h = ⊎_elim
     (λ same. (x, Contains-first x xs, same))
     (λ later. let rest = Contains-map_cases f xs y later in (rest.0, Contains-later x xs rest.0 rest.1, rest.2))
-    (Contains-cons_cases (f x) (map f xs) y h)
+    (Contains-cases (f x) (map f xs) y h)
 
 pub Contains-map : {X Y : Type 0} (f : X → Y) (xs : List X) (x : X) → Contains xs x → Contains (map f xs) (f x)
-Contains-map f [] x h = absurd (Contains-nil x h)
+Contains-map f [] x h = absurd (not-in-nil x h)
 Contains-map f (y ∷ ys) x h = ⊎_elim
     (λ same. subst (λ z. Contains (map f (y ∷ ys)) (f z)) same (Contains-first (f y) (map f ys)))
     (λ later. Contains-later (f y) (map f ys) (f x) (Contains-map f ys x later))
-    (Contains-cons_cases y ys x h)
+    (Contains-cases y ys x h)
 
 -- an element's share of a sum is at most the sum
 pub Contains-le-sum_by : {X : Type 0} (f : X → ℕ) (xs : List X) (x : X) → Contains xs x → f x ≤ sum_by f xs

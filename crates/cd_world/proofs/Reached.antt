@@ -3,7 +3,8 @@ use Rattle.std.proofs.Common.{◌≡◌, ℕ, zero, suc, ◌+◌, ◌<◌, ◌�
 use Rattle.std.specs.List.{Contains}
 use Rattle.cd_cell.specs.Tree.{Tree, children, subtrees}
 use Rattle.cd_world.proofs.Among.{Contains-map_cases, Contains-map}
-use Rattle.cd_world.proofs.Subtrees.{sub_cases, sub_child}
+use Rattle.cd_cell.proofs.Subtrees.{subtrees-subtree, child-is-subtree}
+use Rattle.cd_world.proofs.Subtrees.{sub_cases}
 
 -- the cells of n entries, and the entries that each names
 pub record IsUnfolded (n : ℕ) (tree : ℕ → Tree) (refs : ℕ → List ℕ) : Type 0 where
@@ -26,4 +27,4 @@ module _ {n : ℕ} {tree : ℕ → Tree} {refs : ℕ → List ℕ} (u : IsUnfold
 
   -- what an entry below a cell names is below the cell
   pub reached_below : (t : Tree) (i r : ℕ) → i < n → Contains (subtrees t) (tree i) → Contains (refs i) r → Contains (subtrees t) (tree r)
-  reached_below t i r l h k = sub_child t (tree i) (tree r) h (subst (λ xs. Contains xs (tree r)) (sym (u.kids i l)) (Contains-map tree (refs i) r k))
+  reached_below t i r l h k = subtrees-subtree t (tree i) (tree r) h (child-is-subtree (tree i) (tree r) (subst (λ xs. Contains xs (tree r)) (sym (u.kids i l)) (Contains-map tree (refs i) r k)))
