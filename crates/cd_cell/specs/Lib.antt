@@ -8,3 +8,4 @@ pub mod CellFaults
 pub mod Fit
 pub mod Tree
 pub mod Export
+pub mod Equality
