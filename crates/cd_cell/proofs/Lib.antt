@@ -1,2 +1,5 @@
 pub mod Unfoldings
 pub mod Subtrees
+pub mod BitLemmas
+pub mod MaskLemmas
+pub mod FaceLemmas

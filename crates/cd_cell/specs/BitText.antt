@@ -1,5 +1,5 @@
 -- Bits as bytes: the data of a cell, with the completion of a last byte that isn't full.
-use Rattle.std.specs.Prelude.{ℕ, zero, suc, ◌+◌, ◌-◌, ◌*◌, ◌/◌, ◌%◌, Bool, true, false, List, [], ◌∷◌, ◌++◌, length, take, drop, replicate, ◌==◌, ◌≡◌, ◌≤◌, if◌then◌else◌}
+use Rattle.std.specs.Prelude.{ℕ, zero, suc, ◌+◌, ◌-◌, ◌*◌, ◌/◌, ◌%◌, Bool, true, false, List, [], ◌∷◌, ◌++◌, length, take, drop, replicate, ◌==◌, ◌≡◌, ◌≢◌, ◌≤◌, ◌<◌, slice_index, if◌then◌else◌}
 use Rattle.std.specs.List.{flat_map}
 
 -- whether the lowest bit is set
@@ -50,3 +50,8 @@ pub record IsBitText (bytes : List ℕ) (count : ℕ) : Type 0 where
   pub few : count ≤ 1023
   pub counted : length (first_bits count bytes) ≡ count
   pub text : bytes ≡ filled (data_of (first_bits count bytes))
+
+-- bytes are the data of some bits, of whole bytes or of a last byte that was completed
+abbrev pub IsBitData : Bool → List ℕ → Type 0
+IsBitData true bytes = length bytes ≤ 127
+IsBitData false bytes = (0 < length bytes) × (length bytes ≤ 128) × (slice_index bytes (length bytes - 1) % 128 ≢ 0)

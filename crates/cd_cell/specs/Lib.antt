@@ -9,3 +9,4 @@ pub mod Fit
 pub mod Tree
 pub mod Export
 pub mod Unfolding
+pub mod Equality

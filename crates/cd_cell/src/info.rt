@@ -1,3 +1,6 @@
+ghost use Rattle.std.specs.Prelude.{◌≡◌};
+ghost use Rattle.cd_cell.specs.Infos.{rep_of_info, height_of_info};
+
 use crate::Mask;
 use cd_base::Hash256;
 
@@ -11,4 +14,27 @@ pub struct ChildInfo {
     pub hashes: [Hash256; 4],
     /// The depth at each level, at most 1024 in a well-formed cell.
     pub depths: [u16; 4],
+}
+
+impl ChildInfo {
+    // What stands where no child is.
+    pub(crate) const NONE: ChildInfo = ChildInfo {
+        mask: Mask::NONE,
+        hashes: [Hash256([0; 32]); 4],
+        depths: [0; 4],
+    };
+
+    /// The hash at level 3, which is the key of a stored cell.
+    pub fn rep(&self) -> Hash256
+        ensures { result ≡ rep_of_info self.now }
+    {
+        self.hashes[3]
+    }
+
+    /// The depth at level 3.
+    pub fn height(&self) -> u16
+        ensures { result ≡ height_of_info self.now }
+    {
+        self.depths[3]
+    }
 }

@@ -8,6 +8,7 @@ mod face;
 mod info;
 mod kind;
 mod mask;
+mod put;
 
 pub use bits::Bits;
 pub use cell_fault::CellFault;

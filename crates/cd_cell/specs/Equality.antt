@@ -1,0 +1,82 @@
+-- Equality of bits, infos and faces as tests, with the proof that each tells equality.
+use Rattle.std.specs.Prelude.{◌≡◌, ◌↔◌, IsTrue, ℕ, Bool, true, false, ◌&&◌, List, nat_eq, refl}
+use Rattle.std.specs.Bool.{beq, Decides}
+use Rattle.std.specs.Str.{bytes_eq}
+use Rattle.std.specs.Cmp.{IsEquivalence, decided}
+use Rattle.std.specs.Cmp.Lexicographic.{pointwise, pointwise_decides, bytes_decides}
+use Rattle.std.proofs.Common.{sym, ap, ap₂, ◌∙◌}
+use Rattle.std.proofs.lemmas.Bool.{and_parts, and_from, true≢false}
+use Rattle.std.proofs.lemmas.Bool.Decides.{Decides-eqb}
+use Rattle.cd_base.specs.declared.hash.Hash256.{Hash256}
+use Rattle.cd_cell.specs.declared.info.ChildInfo.{ChildInfo}
+use Rattle.cd_cell.specs.FaceView.{FaceView}
+
+abbrev pub same_bits : List Bool → List Bool → Bool
+same_bits = pointwise beq
+
+abbrev pub same_hash : Hash256 → Hash256 → Bool
+same_hash a b = bytes_eq a.0 b.0
+
+abbrev pub same_info : ChildInfo → ChildInfo → Bool
+same_info a b = (nat_eq a.mask b.mask && pointwise same_hash a.hashes b.hashes) && pointwise nat_eq a.depths b.depths
+
+abbrev pub same_face : FaceView → FaceView → Bool
+same_face a b = (beq a.exotic b.exotic && same_bits a.bits b.bits) && pointwise same_info a.kids b.kids
+
+beq-Decides : (a b : Bool) → Decides (beq a b) (a ≡ b)
+beq-Decides false false = (λ _. refl, λ _. refl)
+beq-Decides true true = (λ _. refl, λ _. refl)
+beq-Decides false true = (λ h. absurd (true≢false (sym h)), λ h. absurd (true≢false (sym h)))
+beq-Decides true false = (λ h. absurd (true≢false (sym h)), λ h. absurd (true≢false h))
+
+pub same_bits-Decides : (a b : List Bool) → Decides (same_bits a b) (a ≡ b)
+same_bits-Decides = pointwise_decides beq-Decides
+
+pub same_hash-Decides : (a b : Hash256) → Decides (same_hash a b) (a ≡ b)
+same_hash-Decides a b =
+    let whole : List ℕ → Hash256 = λ xs. record { 0 = xs } in
+    let bytes = bytes_decides a.0 b.0 in
+    (λ h. ap whole (bytes.0 h), λ h. bytes.1 (ap (λ (x : Hash256). x.0) h))
+
+pub same_info-Decides : (a b : ChildInfo) → Decides (same_info a b) (a ≡ b)
+same_info-Decides a b =
+    let mask = Decides-eqb a.mask b.mask in
+    let hashes = pointwise_decides same_hash-Decides a.hashes b.hashes in
+    let depths = pointwise_decides Decides-eqb a.depths b.depths in (
+      λ h.
+          let both = and_parts _ _ h in
+          let first = and_parts _ _ both.0 in
+          let front : ℕ → List Hash256 → ChildInfo = λ m hs. record { mask = m; hashes = hs; depths = a.depths } in
+          let back : List ℕ → ChildInfo = λ ds. record { mask = b.mask; hashes = b.hashes; depths = ds } in
+          ap₂ front (mask.0 first.0) (hashes.0 first.1) ∙ ap back (depths.0 both.1),
+      λ h. and_from _ _ (and_from _ _ (mask.1 (ap (λ (x : ChildInfo). x.mask) h)) (hashes.1 (ap (λ (x : ChildInfo). x.hashes) h))) (depths.1 (ap (λ (x : ChildInfo). x.depths) h)),
+    )
+
+pub same_face-Decides : (a b : FaceView) → Decides (same_face a b) (a ≡ b)
+same_face-Decides a b =
+    let flag = beq-Decides a.exotic b.exotic in
+    let bits = same_bits-Decides a.bits b.bits in
+    let kids = pointwise_decides same_info-Decides a.kids b.kids in (
+      λ h.
+          let both = and_parts _ _ h in
+          let first = and_parts _ _ both.0 in
+          let front : Bool → List Bool → FaceView = λ e bs. record { exotic = e; bits = bs; kids = a.kids } in
+          let back : List ChildInfo → FaceView = λ ks. record { exotic = b.exotic; bits = b.bits; kids = ks } in
+          ap₂ front (flag.0 first.0) (bits.0 first.1) ∙ ap back (kids.0 both.1),
+      λ h. and_from _ _ (and_from _ _ (flag.1 (ap (λ (x : FaceView). x.exotic) h)) (bits.1 (ap (λ (x : FaceView). x.bits) h))) (kids.1 (ap (λ (x : FaceView). x.kids) h)),
+    )
+
+-- a result that is the test tells equality
+pub iff_from_same_bits : (r : Bool) (a b : List Bool) → r ≡ same_bits a b → IsTrue r ↔ (a ≡ b)
+iff_from_same_bits r a b is =
+    let same = same_bits-Decides a b in (λ h. same.0 (sym is ∙ h), λ h. is ∙ same.1 h)
+
+pub iff_from_same_face : (r : Bool) (a b : FaceView) → r ≡ same_face a b → IsTrue r ↔ (a ≡ b)
+iff_from_same_face r a b is =
+    let same = same_face-Decides a b in (λ h. same.0 (sym is ∙ h), λ h. is ∙ same.1 h)
+
+pub same_bits-laws : IsEquivalence same_bits
+same_bits-laws = decided same_bits same_bits-Decides
+
+pub same_face-laws : IsEquivalence same_face
+same_face-laws = decided same_face same_face-Decides
