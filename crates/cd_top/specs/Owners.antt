@@ -9,7 +9,7 @@ use Rattle.cd_base.specs.declared.hash.Hash256.{Hash256}
 use Rattle.cd_cell.specs.FaceView.{FaceView}
 use Rattle.cd_cell.specs.Export.{hash_cmp}
 use Rattle.cd_top.specs.declared.collect.Collected.{Collected}
-use Rattle.cd_top.specs.Graph.{degree_of, ref_at, rep_at}
+use Rattle.cd_top.specs.Graph.{degree_of, ref_at, rep_at, Reaches}
 
 -- the owner of an entry, if the entry is reached
 abbrev pub owner_at : Collected → ℕ → Option ℕ
@@ -39,3 +39,14 @@ module _ (H : List ℕ → Hash256) (cells : List FaceView) where
 -- no mark is taken back
 abbrev pub KeepsMarks : Collected → Collected → Type 0
 KeepsMarks old new = (i : ℕ) → IsSome (owner_at old i) → IsSome (owner_at new i)
+
+-- an entry names this one as a child
+abbrev pub IsRefOf : List FaceView → List (List ℕ) → ℕ → ℕ → Type 0
+IsRefOf cells refs i k = (place : ℕ) × (place < degree_of cells i) × (ref_at refs i place ≡ k)
+
+-- what is collected from a root: it and all that it leads to is reached, and nothing else
+pub record IsCollected (H : List ℕ → Hash256) (cells : List FaceView) (refs : List (List ℕ)) (root : ℕ) (c : Collected) : Type 0 where
+  pub owners : AreOwners H cells c
+  pub first : IsSome (owner_at c root)
+  pub closed : (i place : ℕ) → i < length cells → IsSome (owner_at c i) → place < degree_of cells i → IsSome (owner_at c (ref_at refs i place))
+  pub reached : (i : ℕ) → IsSome (owner_at c i) → Reaches cells refs root i

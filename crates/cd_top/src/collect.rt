@@ -1,13 +1,15 @@
-ghost use Rattle.std.specs.Prelude.{◌≡◌, ◌<◌, ◌+◌, length, IfOk, OnOk, if◌then◌else◌, is_some};
+ghost use Rattle.std.specs.Prelude.{◌≡◌, ◌⊎◌, ℕ, ◌<◌, ◌+◌, length, replicate, IfOk, OnOk, if◌then◌else◌, is_some, IsSome};
 ghost use Rattle.std.specs.Option.{unwrap_or};
 ghost use Rattle.std.specs.Ordering.{is_eq};
 ghost use Rattle.std.specs.BTreeMap.{get, btree_map_len};
 ghost use Rattle.cd_base.specs.declared.hash.Hash256.{Hash256};
 ghost use Rattle.cd_cell.specs.Export.{hash_cmp};
-ghost use Rattle.cd_top.specs.Owners.{owner_at, Marks};
+ghost use Rattle.cd_top.specs.Graph.{IsGraph, degree_of, ref_at, rep_at};
+ghost use Rattle.cd_top.specs.Owners.{owner_at, Marks, AreOwners, KeepsMarks, IsRefOf, IsCollected};
 
 use cd_base::Hash256;
-use std::alloc::AllocError;
+use cd_cell::{Face, Hash32};
+use std::alloc::{AllocError, Global};
 use std::collections::BTreeMap;
 
 /// The distinct cells among the entries that are reached from a root.
@@ -47,4 +49,63 @@ impl Collected {
         self.owners[entry as usize] = Some(owner);
         Ok(owner)
     }
+
+    /// Marks the children of an entry as reached.
+    fn visit<H: Hash32>(
+        &mut self,
+        cells: &[Face],
+        refs: &[[u32; 4]],
+        i: usize,
+    ) -> Result<(), AllocError>
+        requires graph { IsGraph H.digest_of cells.now refs.now }
+        requires owners { AreOwners H.digest_of cells.now self.old }
+        requires bound { i < length cells.now }
+        ensures owners { OnOk result (AreOwners H.digest_of cells.now self.new) }
+        ensures keeps { OnOk result (KeepsMarks self.old self.new) }
+        ensures marked { OnOk result ((place : ℕ) → place < degree_of cells.now i → IsSome (owner_at self.new (ref_at refs.now i place))) }
+        ensures only { OnOk result ((k : ℕ) → IsSome (owner_at self.new k) → IsSome (owner_at self.old k) ⊎ IsRefOf cells.now refs.now i k) }
+    {
+        let kids = cells[i].kids();
+        let entries = &refs[i];
+        for (place, kid) in kids.iter().enumerate() {
+            let entry = entries[place];
+            if self.owners[entry as usize].is_none() {
+                self.mark(entry, kid.rep())?;
+            }
+        }
+        Ok(())
+    }
+}
+
+/// No owner for any of so many entries.
+fn no_owners(alloc: Global, count: usize) -> Result<Vec<Option<u32>>, AllocError>
+    ensures { IfOk result (λ owners. owners.items ≡ replicate count None) }
+{
+    vec![in alloc; None; count]
+}
+
+/// The distinct cells of all that an entry leads to. `rep` is the entry's hash.
+pub fn collect<H: Hash32>(
+    alloc: Global,
+    cells: &[Face],
+    refs: &[[u32; 4]],
+    root: u32,
+    rep: Hash256,
+) -> Result<Collected, AllocError>
+    requires graph { IsGraph H.digest_of cells.now refs.now }
+    requires bound { root < length cells.now }
+    requires hash { rep ≡ rep_at H.digest_of cells.now root }
+    ensures { IfOk result (IsCollected H.digest_of cells.now refs.now root) }
+{
+    let mut found = Collected {
+        owners: no_owners(alloc, cells.len())?,
+        by_hash: BTreeMap::new(alloc),
+    };
+    found.mark(root, rep)?;
+    for i in root as usize..cells.len() {
+        if found.owners[i].is_some() {
+            found.visit::<H>(cells, refs, i)?;
+        }
+    }
+    Ok(found)
 }
