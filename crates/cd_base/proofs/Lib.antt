@@ -1,2 +1,3 @@
-pub mod ToldLaws
+pub mod ChecksumLaws
 pub mod NumberLaws
+pub mod ToldLaws

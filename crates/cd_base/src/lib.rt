@@ -4,6 +4,7 @@
 mod answers;
 mod byte_reader;
 mod byte_writer;
+mod checksum;
 mod counts;
 mod hash;
 mod memory_sink;
@@ -18,6 +19,7 @@ mod whole;
 pub use answers::{Failed, Memory};
 pub use byte_reader::ByteReader;
 pub use byte_writer::ByteWriter;
+pub use checksum::{Crc, crc32c};
 pub use counts::raised;
 pub use hash::Hash256;
 pub use memory_sink::{MemorySink, SteadySink};
