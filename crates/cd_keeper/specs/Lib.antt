@@ -1,0 +1,5 @@
+pub mod Contents
+pub mod Keeping
+pub mod NoKeyTwice
+pub mod Shown
+pub mod Undo

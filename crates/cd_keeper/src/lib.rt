@@ -1,0 +1,11 @@
+//! The keeper of the store: two tables of bytes that change by whole batches, and two keepers in memory.
+#![tactic(auto)]
+
+mod batch;
+mod fault;
+mod keeper;
+mod table;
+
+pub use batch::Batch;
+pub use fault::KeepFault;
+pub use keeper::Keeper;
