@@ -1,3 +1,4 @@
-pub mod Keys
-pub mod Tables
-pub mod Undone
+pub mod ChangeLaws
+pub mod KeyLaws
+pub mod TableLaws
+pub mod UndoLaws

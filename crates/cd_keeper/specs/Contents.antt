@@ -1,8 +1,8 @@
 -- What a keeper holds, two tables from keys to values, and what a batch makes of it. Keys and values are lists of bytes.
-use Rattle.std.specs.Prelude.{ℕ, Bool, true, List, Option, Some, None, fold, find}
+use Rattle.std.specs.Prelude.{ℕ, Bool, true, List, Option, Some, None, fold, find, refl}
 use Rattle.std.specs.Ordering.{nat_cmp, is_lt}
 use Rattle.std.specs.Cmp.Lexicographic.{slice_cmp}
-use Rattle.std.specs.Coded.{Coded, coded_ℕ, coded_list}
+use Rattle.std.specs.Coded.{Coded, coded_ℕ, coded_list, coded×, code_by}
 use Rattle.std.specs.FinMap as finite
 
 -- a table from keys, in the order of their bytes, to values
@@ -16,6 +16,12 @@ coded_table = finite.code (coded_list coded_ℕ) (coded_list coded_ℕ)
 pub record Contents : Type 0 where
   pub cells : Table
   pub descs : Table
+
+abbrev pub coded_contents : Coded Contents
+coded_contents = code_by (Table × Table) (coded× coded_table coded_table) (λ c. (c.cells, c.descs)) (λ p. record { cells = p.0; descs = p.1 }) (λ _. refl)
+
+abbrev pub no_contents : Contents
+no_contents = record { cells = finite.empty; descs = finite.empty }
 
 -- what a batch puts and drops
 pub record Change : Type 0 where

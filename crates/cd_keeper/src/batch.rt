@@ -99,7 +99,8 @@ impl Batch {
 
     /// The records to put, in the order in which they were added.
     pub fn put_cells(&self) -> &[(Hash256, Vec<u8>)]
-        ensures { entries_of hash_bytes result.now ≡ self.now.put_cells }
+        ensures value { entries_of hash_bytes result.now ≡ self.now.put_cells }
+        ensures once { HasNoKeyTwice self.now }
     {
         &self.put_cells
     }

@@ -4,8 +4,11 @@
 mod batch;
 mod fault;
 mod keeper;
+mod steady;
 mod table;
+mod tables;
 
 pub use batch::Batch;
 pub use fault::KeepFault;
 pub use keeper::Keeper;
+pub use steady::SteadyKeeper;

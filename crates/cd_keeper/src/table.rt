@@ -1,5 +1,5 @@
 //! An ordered map from keys to bytes, which takes many changes at once or none.
-ghost use Rattle.std.specs.Prelude.{◌≡◌, ◌<◌, ◌++◌, ◌∷◌, [], length, map, reverse, IfSome, IfNone, IfOk, OnOk, OnErr};
+ghost use Rattle.std.specs.Prelude.{◌≡◌, IsTrue, ◌<◌, ◌++◌, ◌∷◌, [], length, map, reverse, IfSome, IfNone, IfOk, OnOk, OnErr};
 ghost use Rattle.std.specs.Option.{option_map, option_to_list};
 ghost use Rattle.cd_keeper.specs.Contents.{next_entry, is_above, put_all, drop_all};
 ghost use Rattle.cd_keeper.specs.Shown.{entry_of, entries_of, above};
@@ -81,7 +81,8 @@ impl<K: Key> Table<K> {
 
     /// The least key above a bound, with a copy of its value.
     pub fn next(&self, after: Option<K>) -> Result<Option<(K, Vec<u8>)>, Memory>
-        ensures { IfOk result (λ found. option_map (entry_of K.bytes) found ≡ next_entry self.now (option_map K.bytes after)) }
+        ensures value { IfOk result (λ found. option_map (entry_of K.bytes) found ≡ next_entry self.now (option_map K.bytes after)) }
+        ensures above { IfOk result (λ found. IfSome found (λ entry. IsTrue (is_above (option_map K.bytes after) (K.bytes entry.0)))) }
     {
         match self.tree.range((above(after), Bound::Unbounded)).next() {
             Some((key, value)) => Ok(Some((*key, Vec::from_slice(self.alloc, value.as_slice())?))),

@@ -2,7 +2,7 @@ use Rattle.std.proofs.Common.{sym, subst}
 use Rattle.std.proofs.lemmas.List.{map-append}
 use Rattle.cd_keeper.specs.Shown.{desc_bytes}
 use Rattle.cd_keeper.specs.NoKeyTwice.{IsNew, desc_keys}
-use Rattle.cd_keeper.proofs.Keys.{drop_desc-new}
+use Rattle.cd_keeper.proofs.KeyLaws.{drop_desc-new}
 use Rattle.cd_keeper.proofs.batch.Batch.drop_desc.Goals as goal
 
 pub invariant_of-self-2 : goal.invariant_of-self-2

@@ -1,4 +1,4 @@
-use Rattle.cd_keeper.proofs.Keys.{none_twice}
+use Rattle.cd_keeper.proofs.KeyLaws.{none_twice}
 use Rattle.cd_keeper.proofs.batch.Batch.new.Goals as goal
 
 pub invariant_of-result : goal.invariant_of-result

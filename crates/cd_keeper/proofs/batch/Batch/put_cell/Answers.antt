@@ -2,7 +2,7 @@ use Rattle.std.proofs.Common.{sym, subst}
 use Rattle.std.proofs.lemmas.List.{map-append}
 use Rattle.cd_keeper.specs.Shown.{entry_of, hash_bytes}
 use Rattle.cd_keeper.specs.NoKeyTwice.{IsNew, cell_keys}
-use Rattle.cd_keeper.proofs.Keys.{put_cell-new}
+use Rattle.cd_keeper.proofs.KeyLaws.{put_cell-new}
 use Rattle.cd_keeper.proofs.batch.Batch.put_cell.Goals as goal
 
 pub invariant_of-self-2 : goal.invariant_of-self-2

@@ -2,7 +2,7 @@ use Rattle.std.proofs.Common.{sym, subst}
 use Rattle.std.proofs.lemmas.List.{map-append}
 use Rattle.cd_keeper.specs.Shown.{entry_of, desc_bytes}
 use Rattle.cd_keeper.specs.NoKeyTwice.{IsNew, desc_keys}
-use Rattle.cd_keeper.proofs.Keys.{put_desc-new}
+use Rattle.cd_keeper.proofs.KeyLaws.{put_desc-new}
 use Rattle.cd_keeper.proofs.batch.Batch.put_desc.Goals as goal
 
 pub invariant_of-self-2 : goal.invariant_of-self-2

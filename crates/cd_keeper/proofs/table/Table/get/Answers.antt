@@ -1,5 +1,5 @@
 use Rattle.std.proofs.Common.{Some, refl, ap, ◌∙◌}
-use Rattle.cd_keeper.proofs.Tables.{get-table_of}
+use Rattle.cd_keeper.proofs.TableLaws.{get-table_of}
 use Rattle.cd_keeper.proofs.table.Table.get.Goals as goal
 
 pub returns-in_ok-from_slice-in-Some : goal.returns-in_ok-from_slice-in-Some

@@ -1,5 +1,5 @@
 use Rattle.std.proofs.Common.{refl}
-use Rattle.cd_keeper.proofs.Tables.{get-table_of, table_of-insert}
+use Rattle.cd_keeper.proofs.TableLaws.{get-table_of, table_of-insert}
 use Rattle.cd_keeper.proofs.table.Table.put.Goals as goal
 
 pub returns-clause-old : goal.returns-clause-old

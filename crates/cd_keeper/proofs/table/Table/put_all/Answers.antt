@@ -1,6 +1,6 @@
 use Rattle.std.proofs.Common.{◌≡◌, ◌<◌, length, take, arith}
 use Rattle.std.proofs.lemmas.List.{take_more, length-take}
-use Rattle.cd_keeper.proofs.Undone.{put-more}
+use Rattle.cd_keeper.proofs.UndoLaws.{put-more}
 use Rattle.cd_keeper.proofs.table.Table.put_all.Goals as goal
 
 pub loop-at-preserved : goal.loop-at-preserved

@@ -1,4 +1,4 @@
-use Rattle.cd_keeper.proofs.Tables.{put_back-there, put_back-absent}
+use Rattle.cd_keeper.proofs.TableLaws.{put_back-there, put_back-absent}
 use Rattle.cd_keeper.proofs.table.Table.put_back.Goals as goal
 
 pub returns : goal.returns

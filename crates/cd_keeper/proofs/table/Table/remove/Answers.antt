@@ -1,4 +1,4 @@
-use Rattle.cd_keeper.proofs.Tables.{table_of-remove}
+use Rattle.cd_keeper.proofs.TableLaws.{table_of-remove}
 use Rattle.cd_keeper.proofs.table.Table.remove.Goals as goal
 
 pub returns : goal.returns

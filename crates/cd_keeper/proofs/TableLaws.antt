@@ -1,5 +1,5 @@
 -- A tree of keys and values, read as a table of bytes.
-use Rattle.std.proofs.Common.{◌≡◌, ℕ, true, false, cond, List, [], ◌∷◌, Option, Some, None, IsSome, T, ◌&&◌, Vec, Global, refl, sym, ap, ◌∙◌, subst}
+use Rattle.std.proofs.Common.{◌≡◌, ℕ, Bool, true, false, cond, List, [], ◌∷◌, Option, Some, None, IsSome, IfSome, T, ◌&&◌, Vec, Global, refl, sym, ap, ◌∙◌, subst}
 use Rattle.std.specs.declared.cmp.Ordering.{Ordering}
 use Rattle.std.specs.declared.cmp.Ordering.TheVariants.{Less, Equal, Greater}
 use Rattle.std.specs.Ordering.{nat_cmp, is_eq, is_lt, match_ordering}
@@ -153,3 +153,17 @@ module _ {K : Type 0} (cmp : K → K → Ordering) (bytes : K → List ℕ) (ord
 
   pub next_entry-table_of : (after : Option K) (es : List (K × Vec ℕ Global)) → IsStrictlySortedBy cmp (keys_of es) → next_entry (table_of bytes es) (option_map bytes after) ≡ option_map (entry_of bytes) (first (entries_between cmp (above after) Unbounded es))
   next_entry-table_of after es h = ap (find_first (λ e. is_above (option_map bytes after) e.0)) (entries-table_of es h) ∙ find-above after es
+
+find-passes : {A : Type 0} (p : A → Bool) (xs : List A) → IfSome (find_first p xs) (λ x. p x ≡ true)
+find-passes p [] = tt
+find-passes p (x ∷ xs) =
+    elim (p x) as (λ b. p x ≡ b → IfSome (cond b (Some x) (find_first p xs)) (λ x. p x ≡ true)) [
+      | true ↦ λ passes. passes
+      | false ↦ λ _. find-passes p xs
+    ] refl
+
+-- the next entry lies above the bound
+pub next-above : {K : Type 0} (bytes : K → List ℕ) (found : Option (K × Vec ℕ Global)) (table : Table) (after : Option (List ℕ)) → option_map (entry_of bytes) found ≡ next_entry table after → IfSome found (λ e. is_above after (bytes e.0) ≡ true)
+next-above bytes None table after is = tt
+next-above bytes (Some e) table after is =
+    subst (λ o. IfSome o (λ e. is_above after e.0 ≡ true)) (sym is) (find-passes (λ e. is_above after e.0) (finite.entries table))

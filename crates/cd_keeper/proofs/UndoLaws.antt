@@ -7,7 +7,7 @@ use Rattle.std.specs.FinMap as finite
 use Rattle.std.proofs.lemmas.Bool.{eq-eqb, ne_eqb}
 use Rattle.std.proofs.lemmas.List.{reverse-append, length-map, map-append, length-reverse, length-append}
 use Rattle.std.proofs.lemmas.List.Sums.{fold-append}
-use Rattle.cd_keeper.proofs.Tables.{same_table, same_key-equiv}
+use Rattle.cd_keeper.proofs.TableLaws.{same_table, same_key-equiv}
 use Rattle.cd_keeper.specs.NoKeyTwice.{same_key}
 use Rattle.cd_keeper.specs.Contents.{Table, put_all}
 use Rattle.cd_keeper.specs.Shown.{entry_of, entries_of}

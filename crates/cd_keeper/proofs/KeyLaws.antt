@@ -7,7 +7,7 @@ use Rattle.std.proofs.lemmas.List.{map-append}
 use Rattle.std.proofs.lemmas.Map.Keys.{IsDistinct-push, IsDistinct-cons, IsDistinct-head, IsDistinct-tail}
 use Rattle.cd_keeper.specs.Contents.{Change}
 use Rattle.cd_keeper.specs.NoKeyTwice.{HasNoKeyTwice, IsNew, same_key, cell_keys, desc_keys}
-use Rattle.cd_keeper.proofs.Tables.{same_key-equiv}
+use Rattle.cd_keeper.proofs.TableLaws.{same_key-equiv}
 
 apart : (key : List ℕ) (keys : List (List ℕ)) → IsNew key keys → AllByRecursion (λ other. same_key key other ≡ false) keys
 apart key [] new = tt
