@@ -1,3 +1,4 @@
 pub mod BitLemmas
 pub mod MaskLemmas
 pub mod FaceLemmas
+pub mod FitLemmas
