@@ -3,3 +3,4 @@ pub mod Subtrees
 pub mod BitLemmas
 pub mod MaskLemmas
 pub mod FaceLemmas
+pub mod FitLemmas
