@@ -3,3 +3,8 @@ pub mod Subtrees
 pub mod BitLemmas
 pub mod MaskLemmas
 pub mod FaceLemmas
+pub mod FitLemmas
+pub mod Heights
+pub mod LevelRecursions
+pub mod Distinct
+pub mod ExportOrder

@@ -21,8 +21,8 @@ only-at x y (suc k) below is = absurd (omega arith)
 pub Contains-cases : {A : Type 0} (x : A) (xs : List A) (y : A) → Contains (x ∷ xs) y → (x ≡ y) ⊎ Contains xs y
 Contains-cases x xs y h = ⊎_elim (λ at. inl (only-at x y at.0 at.1 at.2)) inr (Contains-append_cases (x ∷ []) xs y h)
 
-pub not-in-nil : {A : Type 0} (y : A) → Contains [] y → ⊥
-not-in-nil y h = omega (arith, h.1)
+pub Contains-nil : {A : Type 0} (y : A) → Contains [] y → ⊥
+Contains-nil y h = omega (arith, h.1)
 
 -- ---- subtrees
 
@@ -31,7 +31,7 @@ subtree-itself (cell exotic bits ts) = Contains-first (cell exotic bits ts) (sub
 
 -- a subtree of a child is one of the cell
 subtrees_of_all-child : (ts : Trees) (c s : Tree) → Contains (list_of ts) c → Contains (subtrees c) s → Contains (subtrees_of_all ts) s
-subtrees_of_all-child no_trees c s h in' = absurd (not-in-nil c h)
+subtrees_of_all-child no_trees c s h in' = absurd (Contains-nil c h)
 subtrees_of_all-child (tree_and t ts) c s h in' =
     ⊎_elim
     (λ same. Contains-append_left (subtrees t) (subtrees_of_all ts) s (subst (λ x. Contains (subtrees x) s) (sym same) in'))
@@ -54,7 +54,7 @@ mutual
       (Contains-cases (cell exotic bits ts) (subtrees_of_all ts) s h)
 
   pub subtrees_of_all-subtree : (ts : Trees) (s u : Tree) → Contains (subtrees_of_all ts) s → Contains (subtrees s) u → Contains (subtrees_of_all ts) u
-  subtrees_of_all-subtree no_trees s u h in' = absurd (not-in-nil s h)
+  subtrees_of_all-subtree no_trees s u h in' = absurd (Contains-nil s h)
   subtrees_of_all-subtree (tree_and t ts) s u h in' =
       ⊎_elim
       (λ here. Contains-append_left (subtrees t) (subtrees_of_all ts) u (subtrees-subtree t s u here in'))
@@ -63,7 +63,7 @@ mutual
 
 -- the subtrees of listed trees have their subtrees among them
 pub flat_map-subtree : (ts : List Tree) (s u : Tree) → Contains (flat_map subtrees ts) s → Contains (subtrees s) u → Contains (flat_map subtrees ts) u
-flat_map-subtree [] s u h in' = absurd (not-in-nil s h)
+flat_map-subtree [] s u h in' = absurd (Contains-nil s h)
 flat_map-subtree (t ∷ ts) s u h in' =
     ⊎_elim
     (λ here. Contains-append_left (subtrees t) (flat_map subtrees ts) u (subtrees-subtree t s u here in'))
@@ -71,7 +71,7 @@ flat_map-subtree (t ∷ ts) s u h in' =
     (Contains-append_cases (subtrees t) (flat_map subtrees ts) s h)
 
 pub flat_map-listed : (ts : List Tree) (t s : Tree) → Contains ts t → Contains (subtrees t) s → Contains (flat_map subtrees ts) s
-flat_map-listed [] t s h in' = absurd (not-in-nil t h)
+flat_map-listed [] t s h in' = absurd (Contains-nil t h)
 flat_map-listed (x ∷ ts) t s h in' =
     ⊎_elim
     (λ same. Contains-append_left (subtrees x) (flat_map subtrees ts) s (subst (λ y. Contains (subtrees y) s) (sym same) in'))
@@ -90,7 +90,7 @@ module _ (H : List ℕ → Hash256) where
         (Contains-cases (cell exotic bits ts) (subtrees_of_all ts) s h)
 
     pub well_formed-subtree_of_all : (ts : Trees) (s : Tree) → AreWellFormed H ts → Contains (subtrees_of_all ts) s → IsWellFormed H s
-    well_formed-subtree_of_all no_trees s good h = absurd (not-in-nil s h)
+    well_formed-subtree_of_all no_trees s good h = absurd (Contains-nil s h)
     well_formed-subtree_of_all (tree_and t ts) s good h =
         ⊎_elim
         (λ here. well_formed-subtree t s good.0 here)

@@ -1,9 +1,10 @@
 -- The distinct cells of a tree in the order of an export, and trees without clashes of hashes.
-use Rattle.std.specs.Prelude.{◌≡◌, ℕ, List, [], ◌∷◌, Contains}
+use Rattle.std.specs.Prelude.{◌≡◌, ℕ, List, [], ◌∷◌, Contains, AllPairs}
 use Rattle.std.specs.List.{flat_map}
 use Rattle.std.specs.Ordering.{nat_cmp, ordering_then, match_ordering}
 use Rattle.std.specs.Cmp.Lexicographic.{slice_cmp}
 use Rattle.std.specs.declared.cmp.Ordering.{Ordering}
+use Rattle.std.specs.declared.cmp.Ordering.TheVariants.{Less, Equal}
 use Rattle.cd_base.specs.declared.hash.Hash256.{Hash256}
 use Rattle.cd_cell.specs.Tree.{Tree, subtrees, face_of, rep_of, height_of}
 
@@ -20,6 +21,12 @@ with_distinct cmp x (y ∷ ys) = match_ordering (cmp x y) (x ∷ y ∷ ys) (y �
 abbrev pub sorted_distinct : {A : Type 0} → (A → A → Ordering) → List A → List A
 sorted_distinct cmp [] = []
 sorted_distinct cmp (x ∷ xs) = with_distinct cmp x (sorted_distinct cmp xs)
+
+-- the same as a relation: ys are elements of xs, each before those after it, and each of xs ties with one of them
+pub record AreDistinct {A : Type 0} (cmp : A → A → Ordering) (xs ys : List A) : Type 0 where
+  pub ordered : AllPairs (λ a b. cmp a b ≡ Less) ys
+  pub within : (y : A) → Contains ys y → Contains xs y
+  pub whole : (x : A) → Contains xs x → (y : A) × Contains ys y × (cmp x y ≡ Equal)
 
 module _ (H : List ℕ → Hash256) where
   -- the greatest height first, and then the least rep first

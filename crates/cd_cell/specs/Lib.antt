@@ -10,3 +10,5 @@ pub mod Tree
 pub mod Export
 pub mod Unfolding
 pub mod Equality
+pub mod Steady
+pub mod LevelRecursion

@@ -7,8 +7,13 @@ mod digest;
 mod face;
 mod info;
 mod kind;
+mod levels;
 mod mask;
+mod pruned;
 mod put;
+mod shown;
+mod stated;
+mod text;
 
 pub use bits::Bits;
 pub use cell_fault::CellFault;
@@ -17,3 +22,4 @@ pub use face::Face;
 pub use info::ChildInfo;
 pub use kind::Kind;
 pub use mask::Mask;
+pub use shown::face_info;
