@@ -2,3 +2,5 @@
 #![tactic(auto)]
 
 mod collect;
+mod count;
+mod held;
