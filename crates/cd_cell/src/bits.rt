@@ -1,5 +1,5 @@
 ghost use Rattle.std.specs.Prelude.{◌≡◌, ◌≢◌, ◌↔◌, ℕ, ◌+◌, ◌*◌, ◌%◌, ◌≤◌, ◌<◌, ◌==◌, List, length, take, drop, slice_get, slice_index, IsSome, IfSome};
-ghost use Rattle.cd_cell.specs.BitText.{data_of, first_bits, byte_of_bits, bits_of_byte, filled, IsBitData};
+ghost use Rattle.cd_cell.specs.BitText.{data_of, byte_count, first_bits, byte_of_bits, bits_of_byte, filled, IsBitData};
 
 use crate::put::put;
 use std::fmt;
@@ -105,6 +105,7 @@ impl Bits {
     /// "Standard cell representation"): at most 128 bytes.
     pub fn data(&self) -> &[u8]
         ensures value { result.now ≡ data_of self.now }
+        ensures len { length result.now ≡ byte_count (length self.now) }
         ensures short { length result.now ≤ 128 }
     {
         &self.bytes[..(self.len as usize).div_ceil(8)]

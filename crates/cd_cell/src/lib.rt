@@ -3,6 +3,7 @@
 
 mod bits;
 mod cell_fault;
+mod check;
 mod digest;
 mod face;
 mod info;
