@@ -7,3 +7,4 @@ pub mod Heights
 pub mod LevelRecursions
 pub mod Distinct
 pub mod ExportOrder
+pub mod BagLaws
