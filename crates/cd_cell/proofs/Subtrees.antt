@@ -1,11 +1,12 @@
 -- Laws of subtrees: they are well-formed where the tree is, and where trees are free of clashes those of equal reps
 -- are equal.
-use Rattle.std.proofs.Common.{◌≡◌, ℕ, zero, suc, ◌<◌, List, [], ◌∷◌, get_or, drop, Contains, map, flat_map, refl, ap, sym, subst, inl, inr, ⊎_elim, ◌⊎◌, arith}
+use Rattle.std.proofs.Common.{◌≡◌, ℕ, zero, suc, ◌<◌, List, [], ◌∷◌, length, get_or, drop, Contains, map, flat_map, refl, ap, sym, subst, inl, inr, ⊎_elim, ◌⊎◌, arith}
 use Rattle.std.proofs.lemmas.List.Elements.{Contains-append_cases, Contains-append_left, Contains-append_right}
 use Rattle.cd_base.specs.declared.hash.Hash256.{Hash256}
 use Rattle.cd_cell.specs.Infos.{rep_of_info}
 use Rattle.cd_cell.specs.Levels.{info_of_face}
-use Rattle.cd_cell.specs.Tree.{Tree, cell, Trees, no_trees, tree_and, list_of, children, subtrees, subtrees_of_all, info_of, infos_of, face_of, rep_of, IsWellFormed, AreWellFormed}
+use Rattle.cd_cell.specs.Tree.{Tree, cell, Trees, no_trees, tree_and, list_of, trees_of, children, subtrees, subtrees_of_all, info_of, infos_of, face_of, rep_of, IsWellFormed, AreWellFormed}
+use Rattle.cd_cell.specs.GoodFace.{IsGoodFace}
 use Rattle.cd_cell.specs.Export.{AreClashFree}
 
 pub Contains-first : {A : Type 0} (x : A) (xs : List A) → Contains (x ∷ xs) x
@@ -24,7 +25,27 @@ Contains-cases x xs y h = ⊎_elim (λ at. inl (only-at x y at.0 at.1 at.2)) inr
 pub Contains-nil : {A : Type 0} (y : A) → Contains [] y → ⊥
 Contains-nil y h = omega (arith, h.1)
 
+pub Contains-map : {A B : Type 0} (f : A → B) (xs : List A) (y : B) → Contains (map f xs) y → (x : A) × Contains xs x × (f x ≡ y)
+Contains-map f [] y h = absurd (Contains-nil y h)
+Contains-map f (x ∷ xs) y h =
+    ⊎_elim
+    (λ same. (x, Contains-first x xs, same))
+    (λ later. let found = Contains-map f xs y later in (found.0, Contains-later x xs found.0 found.1, found.2))
+    (Contains-cases (f x) (map f xs) y h)
+
+pub Contains-mapped : {A B : Type 0} (f : A → B) (xs : List A) (x : A) → Contains xs x → Contains (map f xs) (f x)
+Contains-mapped f [] x h = absurd (Contains-nil x h)
+Contains-mapped f (z ∷ xs) x h =
+    ⊎_elim
+    (λ same. subst (λ w. Contains (map f (z ∷ xs)) (f w)) same (Contains-first (f z) (map f xs)))
+    (λ later. Contains-later (f z) (map f xs) (f x) (Contains-mapped f xs x later))
+    (Contains-cases z xs x h)
+
 -- ---- subtrees
+
+pub list_of-trees_of : (ts : List Tree) → list_of (trees_of ts) ≡ ts
+list_of-trees_of [] = refl
+list_of-trees_of (t ∷ ts) = ap (λ us. t ∷ us) (list_of-trees_of ts)
 
 pub subtree-itself : (t : Tree) → Contains (subtrees t) t
 subtree-itself (cell exotic bits ts) = Contains-first (cell exotic bits ts) (subtrees_of_all ts)
@@ -43,6 +64,19 @@ subtrees-child (cell exotic bits ts) c s h in' = Contains-later (cell exotic bit
 
 pub child-is-subtree : (t c : Tree) → Contains (children t) c → Contains (subtrees t) c
 child-is-subtree t c h = subtrees-child t c c h (subtree-itself c)
+
+-- a subtree is the cell itself or one of a child
+subtrees_of_all-cases : (ts : Trees) (s : Tree) → Contains (subtrees_of_all ts) s → (c : Tree) × Contains (list_of ts) c × Contains (subtrees c) s
+subtrees_of_all-cases no_trees s h = absurd (Contains-nil s h)
+subtrees_of_all-cases (tree_and t ts) s h =
+    ⊎_elim
+    (λ here. (t, Contains-first t (list_of ts), here))
+    (λ later. let found = subtrees_of_all-cases ts s later in (found.0, Contains-later t (list_of ts) found.0 found.1, found.2))
+    (Contains-append_cases (subtrees t) (subtrees_of_all ts) s h)
+
+pub subtrees-cases : (t s : Tree) → Contains (subtrees t) s → (t ≡ s) ⊎ ((c : Tree) × Contains (children t) c × Contains (subtrees c) s)
+subtrees-cases (cell exotic bits ts) s h =
+    ⊎_elim inl (λ below. inr (subtrees_of_all-cases ts s below)) (Contains-cases (cell exotic bits ts) (subtrees_of_all ts) s h)
 
 -- a subtree of a subtree is a subtree
 mutual
@@ -69,6 +103,14 @@ flat_map-subtree (t ∷ ts) s u h in' =
     (λ here. Contains-append_left (subtrees t) (flat_map subtrees ts) u (subtrees-subtree t s u here in'))
     (λ later. Contains-append_right (subtrees t) (flat_map subtrees ts) u (flat_map-subtree ts s u later in'))
     (Contains-append_cases (subtrees t) (flat_map subtrees ts) s h)
+
+pub flat_map-cases : (ts : List Tree) (s : Tree) → Contains (flat_map subtrees ts) s → (t : Tree) × Contains ts t × Contains (subtrees t) s
+flat_map-cases [] s h = absurd (Contains-nil s h)
+flat_map-cases (x ∷ ts) s h =
+    ⊎_elim
+    (λ here. (x, Contains-first x ts, here))
+    (λ later. let found = flat_map-cases ts s later in (found.0, Contains-later x ts found.0 found.1, found.2))
+    (Contains-append_cases (subtrees x) (flat_map subtrees ts) s h)
 
 pub flat_map-listed : (ts : List Tree) (t s : Tree) → Contains ts t → Contains (subtrees t) s → Contains (flat_map subtrees ts) s
 flat_map-listed [] t s h in' = absurd (Contains-nil t h)
@@ -99,6 +141,21 @@ module _ (H : List ℕ → Hash256) where
 
   pub well_formed-child : (t c : Tree) → IsWellFormed H t → Contains (children t) c → IsWellFormed H c
   well_formed-child t c good h = well_formed-subtree t c good (child-is-subtree t c h)
+
+  length-infos_of : (ts : Trees) → length (infos_of H ts) ≡ length (list_of ts)
+  length-infos_of no_trees = refl
+  length-infos_of (tree_and t ts) = ap suc (length-infos_of ts)
+
+  AreWellFormed-from : (ts : Trees) → ((c : Tree) → Contains (list_of ts) c → IsWellFormed H c) → AreWellFormed H ts
+  AreWellFormed-from no_trees each = tt
+  AreWellFormed-from (tree_and t ts) each = (each t (Contains-first t (list_of ts)), AreWellFormed-from ts (λ c h. each c (Contains-later t (list_of ts) c h)))
+
+  -- a tree is well-formed where its children are and its face is good, and only there
+  pub IsWellFormed-from : (t : Tree) → IsGoodFace (face_of H t) → ((c : Tree) → Contains (children t) c → IsWellFormed H c) → IsWellFormed H t
+  IsWellFormed-from (cell exotic bits ts) good each = (good.bits, omega (arith, good.kids, length-infos_of ts), good.fit, AreWellFormed-from ts each)
+
+  pub IsGoodFace-face_of : (t : Tree) → IsWellFormed H t → IsGoodFace (face_of H t)
+  IsGoodFace-face_of (cell exotic bits ts) good = record { bits = good.0; kids = omega (arith, good.1, length-infos_of ts); fit = good.2 }
 
   -- what a cell shows, by its face
   pub info_of-face_of : (t : Tree) → info_of H t ≡ info_of_face H (face_of H t)

@@ -1,13 +1,13 @@
 -- Laws of unfolded entries: their infos and faces are those of the cells, and how a list of infos is filled from
 -- the last entry downwards.
-use Rattle.std.proofs.Common.{◌≡◌, ℕ, zero, suc, ◌+◌, ◌-◌, ◌<◌, List, [], ◌∷◌, length, get_or, set, drop, map, refl, ap, sym, ◌∙◌, arith}
+use Rattle.std.proofs.Common.{◌≡◌, ℕ, zero, suc, ◌+◌, ◌-◌, ◌<◌, List, [], ◌∷◌, length, get_or, set, drop, map, refl, ap, sym, ◌∙◌, add-zero, arith}
 use Rattle.std.proofs.lemmas.List.{get_or_default, get_or-drop, drop_more, drop-set}
 use Rattle.cd_base.specs.declared.hash.Hash256.{Hash256}
 use Rattle.cd_cell.specs.declared.info.ChildInfo.{ChildInfo}
 use Rattle.cd_cell.specs.FaceView.{FaceView}
 use Rattle.cd_cell.specs.Levels.{info_of_face}
 use Rattle.cd_cell.specs.Tree.{Tree, trees_of, info_of, infos_of, face_of}
-use Rattle.cd_cell.specs.Unfolding.{Entry, no_tree, behind, tree_of_entry, unfold_from, face_of_entry, infos_from, faces_from}
+use Rattle.cd_cell.specs.Unfolding.{Entry, no_tree, behind, tree_of_entry, unfold_from, unfolding_of, face_of_entry, infos_from, faces_from}
 
 -- a look-up in a mapped list
 pub get_or-mapped : {A B : Type 0} (f : A → B) (xs : List A) (k : ℕ) (d : A) → get_or (map f xs) k (f d) ≡ f (get_or xs k d)
@@ -86,6 +86,14 @@ module _ (H : List ℕ → Hash256) where
   pub drop-faces_from : (k : ℕ) (es : List Entry) → drop k (faces_from H 0 es) ≡ faces_from H k (drop k es)
   drop-faces_from k es = drop-faces_from-at k 0 k es (omega arith)
 
+  pub infos_from-cons : (i : ℕ) (e : Entry) (es : List Entry) → infos_from H i (e ∷ es) ≡ info_of_face H (face_of_entry H i e (infos_from H (i + 1) es)) ∷ infos_from H (i + 1) es
+  unfolding infos_from
+  infos_from-cons i e es = refl
+
+  pub faces_from-cons : (i : ℕ) (e : Entry) (es : List Entry) → faces_from H i (e ∷ es) ≡ face_of_entry H i e (infos_from H (i + 1) es) ∷ faces_from H (i + 1) es
+  unfolding faces_from
+  faces_from-cons i e es = refl
+
   -- the last entry has nothing behind it
   pub infos_from-end : (i : ℕ) → infos_from H i [] ≡ []
   unfolding infos_from
@@ -94,6 +102,16 @@ module _ (H : List ℕ → Hash256) where
   pub faces_from-end : (i : ℕ) → faces_from H i [] ≡ []
   unfolding faces_from
   faces_from-end i = refl
+
+  -- the face of entry k among all of them, over what those behind it show
+  pub faces_from-at : (k : ℕ) (es : List Entry) (d : Entry) (e : FaceView) → k < length es → get_or (faces_from H 0 es) k e ≡ face_of_entry H k (get_or es k d) (drop (k + 1) (infos_from H 0 es))
+  unfolding faces_from
+  faces_from-at k es d e below =
+      let rest = drop-faces_from k es ∙ ap (faces_from H k) (drop_more es k d below) in
+      ap (λ n. get_or (faces_from H 0 es) n e) (sym (add-zero k))
+      ∙ sym (get_or-drop k (faces_from H 0 es) 0 e)
+      ∙ ap (λ fs. get_or fs 0 e) rest
+      ∙ ap (face_of_entry H k (get_or es k d)) (sym (drop-infos_from (k + 1) es))
 
   -- what entry i shows, put before what those behind it show
   pub infos_from-set : (i : ℕ) (es : List Entry) (infos : List ChildInfo) (d : Entry) → i < length es → length infos ≡ length es → drop (i + 1) infos ≡ infos_from H (i + 1) (drop (i + 1) es) → drop i (set infos i (info_of_face H (face_of_entry H i (get_or es i d) (drop (i + 1) infos)))) ≡ infos_from H i (drop i es)
@@ -124,3 +142,32 @@ behind-drop i xs absent d r later below =
     get_or-drop (i + 1) xs (r - (i + 1)) absent
     ∙ ap (λ k. get_or xs k absent) (let same : i + 1 + (r - (i + 1)) ≡ r = omega arith in same)
     ∙ get_or_default xs r absent d below
+
+drop-unfold_from-at : (k i n : ℕ) (es : List Entry) → i + k ≡ n → drop k (unfold_from i es) ≡ unfold_from n (drop k es)
+unfolding unfold_from
+drop-unfold_from-at zero i n es e = ap (λ m. unfold_from m es) (let same : i ≡ n = omega arith in same)
+drop-unfold_from-at (suc k) i n [] e = refl
+drop-unfold_from-at (suc k) i n (x ∷ es) e = drop-unfold_from-at k (i + 1) n es (let next : i + 1 + k ≡ n = omega arith in next)
+
+pub drop-unfold_from : (k : ℕ) (es : List Entry) → drop k (unfold_from 0 es) ≡ unfold_from k (drop k es)
+drop-unfold_from k es = drop-unfold_from-at k 0 k es (omega arith)
+
+pub length-unfold_from : (i : ℕ) (es : List Entry) → length (unfold_from i es) ≡ length es
+unfolding unfold_from
+length-unfold_from i [] = refl
+length-unfold_from i (e ∷ es) = ap suc (length-unfold_from (i + 1) es)
+
+pub unfold_from-cons : (i : ℕ) (e : Entry) (es : List Entry) → unfold_from i (e ∷ es) ≡ tree_of_entry i e (unfold_from (i + 1) es) ∷ unfold_from (i + 1) es
+unfolding unfold_from
+unfold_from-cons i e es = refl
+
+-- entry k among all of them, over those behind it
+pub unfolding_of-is : (k : ℕ) (es : List Entry) (d : Entry) → k < length es → unfolding_of es k ≡ tree_of_entry k (get_or es k d) (drop (k + 1) (unfold_from 0 es))
+unfolding unfold_from
+unfolding_of-is k es d below =
+    let rest = drop-unfold_from k es ∙ ap (unfold_from k) (drop_more es k d below) in
+    let first = get_or-drop k (unfold_from 0 es) 0 no_tree in
+    ap (λ n. get_or (unfold_from 0 es) n no_tree) (sym (add-zero k))
+    ∙ sym first
+    ∙ ap (λ ts. get_or ts 0 no_tree) rest
+    ∙ ap (tree_of_entry k (get_or es k d)) (sym (drop-unfold_from (k + 1) es))

@@ -12,3 +12,5 @@ pub mod Unfolding
 pub mod Equality
 pub mod Steady
 pub mod LevelRecursion
+pub mod GoodFace
+pub mod Bags

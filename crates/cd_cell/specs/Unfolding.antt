@@ -1,5 +1,5 @@
 -- The cells that a list of entries describes, as in a bag of cells: the children of an entry stand behind it.
-use Rattle.std.specs.Prelude.{ℕ, ◌+◌, ◌-◌, Bool, false, List, [], ◌∷◌, map, slice_index_or}
+use Rattle.std.specs.Prelude.{ℕ, ◌+◌, ◌-◌, ◌<◌, Bool, false, List, [], ◌∷◌, length, map, slice_index, slice_index_or}
 use Rattle.cd_base.specs.declared.hash.Hash256.{Hash256}
 use Rattle.cd_cell.specs.declared.info.ChildInfo.{ChildInfo}
 use Rattle.cd_cell.specs.FaceView.{FaceView}
@@ -32,6 +32,10 @@ unfold_from i (e ∷ es) = let later = unfold_from (i + 1) es in tree_of_entry i
 -- the cell that a number names among all entries
 abbrev pub unfolding_of : List Entry → ℕ → Tree
 unfolding_of entries number = slice_index_or (unfold_from 0 entries) number no_tree
+
+-- the children of each entry stand behind it
+abbrev pub AreLater : List Entry → Type 0
+AreLater es = (k p : ℕ) (d : Entry) → k < length es → p < length (slice_index_or es k d).refs → (k < slice_index (slice_index_or es k d).refs p) × (slice_index (slice_index_or es k d).refs p < length es)
 
 module _ (H : List ℕ → Hash256) where
   -- the face of entry i, over what the entries behind it show

@@ -1,6 +1,7 @@
 //! Cells of the TON blockchain: faces of cells, masks, and the hashes and depths at the levels 0 to 3.
 #![tactic(auto)]
 
+mod bag;
 mod bits;
 mod cell_fault;
 mod check;
@@ -9,6 +10,7 @@ mod face;
 mod info;
 mod kind;
 mod levels;
+mod lists;
 mod mask;
 mod pruned;
 mod put;
@@ -16,11 +18,13 @@ mod shown;
 mod stated;
 mod text;
 
+pub use bag::Bag;
 pub use bits::Bits;
 pub use cell_fault::CellFault;
 pub use digest::{Hash32, Sha};
 pub use face::Face;
 pub use info::ChildInfo;
 pub use kind::Kind;
+pub use lists::Listed;
 pub use mask::Mask;
 pub use shown::face_info;
