@@ -96,11 +96,8 @@ fn put_hashes(text: &mut Text, kids: &[ChildInfo], level: u8)
 fn head_of(face: &Face, mask: Mask) -> Text
     ensures { result ≡ descriptor1 face.now mask ∷ descriptor2 face.now.bits ∷ [] }
 {
-    let flag = if face.exotic() { 8 } else { 0 };
-    let len = face.bits().len();
     let mut text = Text::new();
-    text.push(face.refs() + flag + 32 * mask.byte());
-    text.push((len / 8 + len.div_ceil(8)) as u8);
+    text.extend(&face.descriptors(mask));
     text
 }
 

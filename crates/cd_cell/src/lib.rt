@@ -5,6 +5,7 @@ mod bag;
 mod bits;
 mod cell_fault;
 mod check;
+mod descriptors;
 mod digest;
 mod face;
 mod info;

@@ -46,7 +46,7 @@ pub fn pruned_depths(face: &Face) -> [u16; 4]
 }
 
 // The mask that a pruned branch states.
-fn pruned_mask(face: &Face) -> Mask
+pub fn pruned_mask(face: &Face) -> Mask
     requires kind { kind_of_face face.now ≡ Some Pruned }
     requires fit { IsPrunedFace face.now }
     ensures { result ≡ mask_of_face face.now }

@@ -13,7 +13,7 @@ use Rattle.std.specs.FinMap.{FinMap, find, get, get-entries, entries, values, sa
 use Rattle.std.proofs.lemmas.Option.{none-some, same_Some}
 use Rattle.cd_base.specs.declared.hash.Hash256.{Hash256}
 use Rattle.cd_cell.specs.Tree.{Tree, children, subtrees, rep_of}
-use Rattle.cd_cell.proofs.Subtrees.{not-in-nil, Contains-first, Contains-later, Contains-cases}
+use Rattle.cd_cell.proofs.Subtrees.{Contains-nil, Contains-first, Contains-later, Contains-cases}
 use Rattle.cd_world.proofs.Among.{Contains-le-sum_by}
 use Rattle.cd_world.proofs.Subtrees.{sub_parent}
 use Rattle.cd_world.specs.World.{Block, Pin, CellMap, held_of, has_hash, places_of, count_of}
@@ -46,7 +46,7 @@ module _ {X : Type 0} (key : X → List ℕ) where
 
   -- an element is found under its key, or one before it
   pub found_for : (q : List ℕ) (xs : List X) (x : X) → Contains xs x → key x ≡ q → IsSome (find (slice_cmp nat_cmp) q (keyed xs))
-  found_for q [] x h e = absurd (not-in-nil x h)
+  found_for q [] x h e = absurd (Contains-nil x h)
   found_for q (y ∷ ys) x h e =
       elim (eq_by_cmp (slice_cmp nat_cmp) q (key y)) as (λ b. eq_by_cmp (slice_cmp nat_cmp) q (key y) ≡ b → IsSome (cond b (Some y) (find (slice_cmp nat_cmp) q (keyed ys)))) [
         | true ↦ λ t. refl

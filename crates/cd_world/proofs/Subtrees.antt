@@ -3,7 +3,7 @@ use Rattle.std.proofs.Common.{◌≡◌, List, ◌∷◌, ◌++◌, sym, subst, 
 use Rattle.std.specs.List.{Contains}
 use Rattle.std.proofs.lemmas.List.Elements.{Contains-append_cases, Contains-append_right, Contains-append_left}
 use Rattle.cd_cell.specs.Tree.{Tree, Trees, cell, no_trees, tree_and, list_of, children, subtrees, subtrees_of_all}
-use Rattle.cd_cell.proofs.Subtrees.{not-in-nil, Contains-first, Contains-later, Contains-cases}
+use Rattle.cd_cell.proofs.Subtrees.{Contains-nil, Contains-first, Contains-later, Contains-cases}
 
 -- a child, and the cell is at it or below it
 abbrev pub Below : List Tree → Tree → Type 0
@@ -14,7 +14,7 @@ abbrev pub HasParent : List Tree → Tree → Type 0
 HasParent xs s = (p : Tree) × Contains xs p × Contains (children p) s
 
 in_all : (ts : Trees) (s : Tree) → Contains (subtrees_of_all ts) s → Below (list_of ts) s
-in_all no_trees s h = absurd (not-in-nil s h)
+in_all no_trees s h = absurd (Contains-nil s h)
 in_all (tree_and t ts) s h = ⊎_elim
     (λ here. (t, Contains-first t (list_of ts), here))
     (λ later. let below = in_all ts s later in (below.0, Contains-later t (list_of ts) below.0 below.1, below.2))
@@ -35,7 +35,7 @@ mutual
           (all_parent ts s later)))
       (Contains-cases (cell exotic bits ts) (subtrees_of_all ts) s h)
   all_parent : (ts : Trees) (s : Tree) → Contains (subtrees_of_all ts) s → Contains (list_of ts) s ⊎ HasParent (subtrees_of_all ts) s
-  all_parent no_trees s h = absurd (not-in-nil s h)
+  all_parent no_trees s h = absurd (Contains-nil s h)
   all_parent (tree_and t ts) s h = ⊎_elim
       (λ here. ⊎_elim
           (λ same. inl (subst (Contains (t ∷ list_of ts)) (sym same) (Contains-first t (list_of ts))))

@@ -3,9 +3,10 @@ use Rattle.std.proofs.Common.{◌≡◌, ◌<◌, List, None, length, get_or, sy
 use Rattle.std.specs.Prelude.{IsSome, is_some, not}
 use Rattle.std.proofs.lemmas.List.{get_or_default}
 use Rattle.cd_cell.specs.FaceView.{FaceView}
-use Rattle.cd_cell.specs.FaceKids.{no_kid}
+use Rattle.cd_cell.specs.CellFaults.{no_info}
+use Rattle.cd_cell.specs.Bags.{no_face}
 use Rattle.cd_cell.specs.Infos.{rep_of_info}
-use Rattle.cd_top.specs.Graph.{no_face, face_at, degree_of, ref_at, rep_at}
+use Rattle.cd_top.specs.Graph.{face_at, degree_of, ref_at, rep_at}
 use Rattle.cd_top.specs.Owners.{owner_at, Marks}
 use Rattle.cd_top.proofs.OwnerLaws.{none_of, VisitedTo-more, Step-same, Step-marks}
 use Rattle.cd_top.proofs.collect.Collected.visit.Goals as goal
@@ -26,7 +27,7 @@ loop-place-preserved g c =
     let in_owners : entry < length c.loop-place.self.owners.items = omega (arith, within, c.loop-place.invariant.owners.long) in
     elim c.if-is_none.branch [
       | then-is_none+in_ok-mark w ↦
-          let kid = c.index-kids-place.is ∙ get_or_default c.kids-kids.result.now place c.index-kids-place.result no_kid (omega (arith, of_kids, ap length kids)) ∙ ap (λ ks. get_or ks place no_kid) kids ∙ graph.kids i place c.requires.bound of_kids in
+          let kid = c.index-kids-place.is ∙ get_or_default c.kids-kids.result.now place c.index-kids-place.result no_info (omega (arith, of_kids, ap length kids)) ∙ ap (λ ks. get_or ks place no_info) kids ∙ graph.kids i place c.requires.bound of_kids in
           let hash = w.rep.ensures ∙ ap rep_of_info kid in
           let marked = w.in_ok-mark.ensures in
           let was_none : owner_at c.loop-place.self entry ≡ None = get_or_default c.loop-place.self.owners.items entry None c.index.result.now in_owners ∙ sym c.index.ensures ∙ none_of c.index.result.now (c.is_none.ensures ∙ ap not w.if-is_none.true) in
