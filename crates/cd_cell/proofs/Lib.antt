@@ -8,3 +8,4 @@ pub mod Heights
 pub mod LevelRecursions
 pub mod Distinct
 pub mod ExportOrder
+pub mod WellFormedCells
