@@ -9,3 +9,4 @@ pub mod LevelRecursions
 pub mod Distinct
 pub mod ExportOrder
 pub mod BagLaws
+pub mod WellFormedCells

@@ -1,4 +1,4 @@
-ghost use Rattle.std.specs.Prelude.{◌≡◌, ◌≢◌, ◌↔◌, ℕ, ◌+◌, ◌*◌, ◌%◌, ◌≤◌, ◌<◌, ◌==◌, List, length, take, drop, slice_get, slice_index, IsSome, IfSome};
+ghost use Rattle.std.specs.Prelude.{◌≡◌, ◌≢◌, ◌↔◌, ℕ, ◌+◌, ◌*◌, ◌%◌, ◌≤◌, ◌<◌, ◌==◌, Bool, List, Some, length, take, drop, slice_get, slice_index, IsSome, IfSome};
 ghost use Rattle.cd_cell.specs.BitText.{data_of, byte_count, first_bits, byte_of_bits, bits_of_byte, filled, IsBitData};
 
 use crate::put::put;
@@ -51,6 +51,7 @@ impl Bits {
         ensures found { IsSome result ↔ IsBitData whole bytes.now }
         ensures value { IfSome result (λ bits. data_of bits ≡ bytes.now) }
         ensures whole { IfSome result (λ bits. (length bits % 8 == 0) ≡ whole) }
+        ensures only { (bits : List Bool) → length bits ≤ 1023 → data_of bits ≡ bytes.now → (length bits % 8 == 0) ≡ whole → result ≡ Some bits }
     {
         if whole {
             if bytes.len() > 127 {

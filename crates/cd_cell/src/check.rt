@@ -1,4 +1,4 @@
-ghost use Rattle.std.specs.Prelude.{◌≡◌, ◌≢◌, ◌↔◌, ◌+◌, ◌*◌, ◌≤◌, ◌<◌, length, Some, None, IfOk, MatchResult};
+ghost use Rattle.std.specs.Prelude.{◌≡◌, ◌≢◌, ◌↔◌, ◌+◌, ◌*◌, ◌≤◌, ◌<◌, ℕ, List, length, Some, None, IsOk, IfOk, MatchResult};
 ghost use Rattle.std.specs.Result.{result_err};
 ghost use Rattle.cd_cell.specs.declared.kind.Kind.TheVariants.{Pruned, Library, Proof, Update};
 ghost use Rattle.cd_cell.specs.FaceView.{FaceView};
@@ -6,6 +6,9 @@ ghost use Rattle.cd_cell.specs.BitText.{data_of};
 ghost use Rattle.cd_cell.specs.Levels.{kind_of_face};
 ghost use Rattle.cd_cell.specs.CellFaults.{refs_fault, bits_fault, states_hash, hash_fault, depth_fault, exotic_fault, form_fault, greatest_depth, fault_of};
 ghost use Rattle.cd_cell.specs.Fit.{IsPrunedFace, IsFaceFit};
+ghost use Rattle.std.specs.List.{All};
+ghost use Rattle.cd_base.specs.declared.hash.Hash256.{Hash256};
+ghost use Rattle.cd_cell.specs.Tree.{Tree, children, face_of, IsWellFormed};
 
 use crate::levels::{plain_depths, plain_mask};
 use crate::pruned::pruned_depths;
@@ -19,12 +22,16 @@ impl Face {
         ensures exact { MatchResult result (λ kind. (fault_of self.now ≡ None) × (kind_of_face self.now ≡ Some kind))
             (λ fault. fault_of self.now ≡ Some fault) }
         ensures fit { IfOk result (λ _. IsFaceFit self.now) }
+        ensures tree { (H : List ℕ → Hash256) (t : Tree) → face_of H t ≡ self.now → All (IsWellFormed H) (children t) →
+            IsOk result ↔ IsWellFormed H t }
     {
         let kind = form(self)?;
         let depth = greatest(self, kind);
         if depth > 1024 {
             return Err(CellFault::DepthBig { depth });
         }
+        // That bits and children are few is a part of being well-formed which every face keeps.
+        let _kept = (self.bits().len(), self.refs());
         Ok(kind)
     }
 }

@@ -22,7 +22,7 @@ mod text;
 pub use bag::Bag;
 pub use bits::Bits;
 pub use cell_fault::CellFault;
-pub use digest::{Hash32, Sha};
+pub use digest::{Hash32, Sha, WeakSum};
 pub use face::Face;
 pub use info::ChildInfo;
 pub use kind::Kind;
