@@ -8,3 +8,4 @@ pub mod LevelRecursions
 pub mod Distinct
 pub mod ExportOrder
 pub mod BagLaws
+pub mod ListedTrees

@@ -10,6 +10,8 @@ mod info;
 mod kind;
 mod lists;
 mod mask;
+mod new_cell;
+mod prepared;
 mod put;
 
 pub use bag::Bag;
@@ -21,3 +23,5 @@ pub use info::ChildInfo;
 pub use kind::Kind;
 pub use lists::Listed;
 pub use mask::Mask;
+pub use new_cell::NewCell;
+pub use prepared::Prepared;
