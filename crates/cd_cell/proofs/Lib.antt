@@ -10,3 +10,4 @@ pub mod Distinct
 pub mod ExportOrder
 pub mod BagLaws
 pub mod WellFormedCells
+pub mod ListedTrees

@@ -95,6 +95,37 @@ mutual
       (λ later. Contains-append_right (subtrees t) (subtrees_of_all ts) u (subtrees_of_all-subtree ts s u later in'))
       (Contains-append_cases (subtrees t) (subtrees_of_all ts) s h)
 
+-- a subtree but the tree itself is a child of a subtree
+mutual
+  pub subtree-parent : (t s : Tree) → Contains (subtrees t) s → (s ≡ t) ⊎ ((p : Tree) × Contains (subtrees t) p × Contains (children p) s)
+  subtree-parent (cell exotic bits ts) s h =
+      ⊎_elim
+      (λ same. inl (sym same))
+      (λ below.
+      let found = subtree_of_all-parent ts s below in
+      inr
+      (⊎_elim
+      (λ child. (cell exotic bits ts, Contains-first (cell exotic bits ts) (subtrees_of_all ts), child))
+      (λ parent. (parent.0, Contains-later (cell exotic bits ts) (subtrees_of_all ts) parent.0 parent.1, parent.2))
+      found))
+      (Contains-cases (cell exotic bits ts) (subtrees_of_all ts) s h)
+
+  subtree_of_all-parent : (ts : Trees) (s : Tree) → Contains (subtrees_of_all ts) s → Contains (list_of ts) s ⊎ ((p : Tree) × Contains (subtrees_of_all ts) p × Contains (children p) s)
+  subtree_of_all-parent no_trees s h = absurd (Contains-nil s h)
+  subtree_of_all-parent (tree_and t ts) s h =
+      ⊎_elim
+      (λ here.
+      ⊎_elim
+      (λ same. inl (subst (Contains (t ∷ list_of ts)) (sym same) (Contains-first t (list_of ts))))
+      (λ parent. inr (parent.0, Contains-append_left (subtrees t) (subtrees_of_all ts) parent.0 parent.1, parent.2))
+      (subtree-parent t s here))
+      (λ later.
+      ⊎_elim
+      (λ child. inl (Contains-later t (list_of ts) s child))
+      (λ parent. inr (parent.0, Contains-append_right (subtrees t) (subtrees_of_all ts) parent.0 parent.1, parent.2))
+      (subtree_of_all-parent ts s later))
+      (Contains-append_cases (subtrees t) (subtrees_of_all ts) s h)
+
 -- the subtrees of listed trees have their subtrees among them
 pub flat_map-subtree : (ts : List Tree) (s u : Tree) → Contains (flat_map subtrees ts) s → Contains (subtrees s) u → Contains (flat_map subtrees ts) u
 flat_map-subtree [] s u h in' = absurd (Contains-nil s h)

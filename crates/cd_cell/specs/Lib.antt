@@ -14,3 +14,4 @@ pub mod Steady
 pub mod LevelRecursion
 pub mod GoodFace
 pub mod Bags
+pub mod Listings

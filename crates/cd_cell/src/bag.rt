@@ -35,3 +35,19 @@ impl<H: Hash32> Bag<H> {
         }
     }
 }
+
+#[cfg(test)]
+mod tests {
+    use super::*;
+    use crate::Sha;
+    use std::test::Fail;
+
+    #[test]
+    fn a_bag_gives_its_lists_back(rt: HostRuntime) -> Result<(), Fail> {
+        let alloc = rt.alloc();
+        let bag: Bag<Sha> = Bag::new(Vec::new(alloc), Vec::new(alloc), Vec::new(alloc));
+        assert_eq!(rt; bag.cells.as_slice().len(), 0);
+        assert_eq!(rt; bag.refs.into_vec().len(), 0);
+        Ok(())
+    }
+}
