@@ -1,17 +1,17 @@
-use Rattle.std.proofs.Common.{◌≡◌, ◌/◌, get_or, bit_and, bit_xor, ap, sym, ◌∙◌, arith}
-use Rattle.std.proofs.lemmas.List.Sums.{fold_more}
-use Rattle.cd_base.specs.Checksum.{crc_bits, crc_byte}
-use Rattle.cd_base.proofs.ChecksumLaws.{crc_byte-table}
+use Rattle.std.proofs.Common.{◌∙◌, ap, fold, drop, subst, sym}
+use Rattle.std.proofs.lemmas.List.{take_rest}
+use Rattle.cd_base.specs.Checksum.{crc_byte}
+use Rattle.cd_base.specs.Numbers.{IsBytes}
+use Rattle.cd_base.proofs.NumberLaws.{IsBytes-drop}
+use Rattle.cd_base.proofs.ChecksumLaws.{fold-crc_byte_four}
 use Rattle.cd_base.proofs.checksum.register_after.Goals as goal
 
-pub loop-byte-preserved : goal.loop-byte-preserved
-loop-byte-preserved c =
-    let bytes = c.args.bytes.now in
-    let i = c.loop-byte.byte-index in
-    let byte = get_or bytes i 0 in
-    let table = crc_byte-table c.loop-byte.register byte (omega (arith, c.type_inv.bytes i)) in
-    let step = fold_more crc_byte c.args.register bytes i 0 c.loop-byte-test.true in
-    let register = c.loop-byte.invariant in
-    let low : c.entry.result ≡ crc_bits 8 (bit_and (bit_xor c.loop-byte.register byte) 255) =
-    c.entry.ensures ∙ ap (λ b. crc_bits 8 (bit_and (bit_xor c.loop-byte.register b) 255)) c.from.ensures in
-    ap (λ x. bit_xor x (c.loop-byte.register / 256)) low ∙ sym table ∙ ap (λ r. crc_byte r byte) register ∙ sym step
+pub loop-rest-preserved : goal.loop-rest-preserved
+loop-rest-preserved c =
+    let rest = c.loop-rest.rest.now in
+    let more = take_rest rest 4 in
+    let four = fold-crc_byte_four c.loop-rest.register c.from_le_bytes.result rest c.loop-rest.invariant.rest c.in-len4-up.len_at_least c.from_le_bytes.ensures in
+    record {
+      register = ap (fold crc_byte c.after_four-register.result) more ∙ ap (λ r. fold crc_byte r (drop 4 rest)) c.after_four-register.ensures ∙ four ∙ c.loop-rest.invariant.register;
+      rest = subst IsBytes (sym more) (IsBytes-drop 4 rest c.loop-rest.invariant.rest);
+    }
