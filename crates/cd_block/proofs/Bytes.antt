@@ -1,6 +1,6 @@
 -- Lists of bytes, and numbers in so many of them.
-use Rattle.std.proofs.Common.{ℕ, ◌+◌, ◌-◌, ◌^◌, ◌<◌, List, ◌++◌, length, get_or, take, drop, refl, arith, inl, inr}
-use Rattle.std.specs.Int.{w32, w64, from_be_bytes}
+use Rattle.std.proofs.Common.{zero, suc, ℕ, ◌+◌, ◌-◌, ◌^◌, ◌<◌, List, ◌++◌, length, get_or, take, drop, refl, arith, inl, inr}
+use Rattle.std.specs.Int.{w32, w64, to_be_bytes, from_be_bytes}
 use Rattle.std.proofs.lemmas.Bool.{cases_lt}
 use Rattle.std.proofs.lemmas.List.{length-take, get_or-drop, get_or-take, get_or_past, get_or_append_left, get_or-append_right}
 
@@ -29,3 +29,14 @@ below_32 bytes fits = omega (arith, fits 0, fits 1, fits 2, fits 3)
 
 pub below_64 : (bytes : List ℕ) → IsBytes bytes → from_be_bytes w64 bytes < 2 ^ 64
 below_64 bytes fits = omega (arith, fits 0, fits 1, fits 2, fits 3, fits 4, fits 5, fits 6, fits 7)
+
+pub IsBytes-be_64 : (n : ℕ) → IsBytes (to_be_bytes w64 n)
+IsBytes-be_64 n zero = omega arith
+IsBytes-be_64 n (suc zero) = omega arith
+IsBytes-be_64 n (suc (suc zero)) = omega arith
+IsBytes-be_64 n (suc (suc (suc zero))) = omega arith
+IsBytes-be_64 n (suc (suc (suc (suc zero)))) = omega arith
+IsBytes-be_64 n (suc (suc (suc (suc (suc zero))))) = omega arith
+IsBytes-be_64 n (suc (suc (suc (suc (suc (suc zero)))))) = omega arith
+IsBytes-be_64 n (suc (suc (suc (suc (suc (suc (suc zero))))))) = omega arith
+IsBytes-be_64 n (suc (suc (suc (suc (suc (suc (suc (suc i)))))))) = omega arith

@@ -5,6 +5,7 @@ ghost use Rattle.std.specs.Cmp.Lexicographic.{slice_cmp};
 ghost use Rattle.std.specs.Ordering.{nat_cmp};
 ghost use Rattle.cd_block.specs.declared.block.BlockId.{BlockId};
 ghost use Rattle.cd_block.specs.Block.{IsBlockId, key_of, id_of, id_cmp};
+ghost use Rattle.cd_block.specs.Spelling.{id_text};
 
 /// No two ids share a key, and the id of an id's key is that id.
 pub fn a_key_has_one_id()
@@ -16,4 +17,9 @@ pub fn a_key_has_one_id()
 /// Ids are ordered as their keys are, byte by byte.
 pub fn ids_are_ordered_by_key()
     ensures { (a b : BlockId) → IsBlockId a → IsBlockId b → id_cmp a b ≡ slice_cmp nat_cmp (key_of a) (key_of b) }
+{}
+
+/// No two ids share a spelling.
+pub fn a_spelling_has_one_id()
+    ensures { (a b : BlockId) → IsBlockId a → IsBlockId b → id_text a ≡ id_text b → a ≡ b }
 {}
