@@ -1,6 +1,9 @@
 pub mod Bytes
 pub mod Keys
+pub mod DescrFields
+pub mod Descriptions
 pub mod HexTexts
+pub mod IdLoop
 pub mod Numbers
 pub mod Options
 pub mod Order

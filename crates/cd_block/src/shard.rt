@@ -1,8 +1,9 @@
+ghost use Rattle.std.specs.Prelude.{◌≡◌};
 ghost use Rattle.std.proofs.Common.{rules};
 ghost use Rattle.std.specs.Cmp.{partial_order_from_own_ties};
 ghost use Rattle.std.specs.Cmp.Rules.{comparing};
 ghost use Rattle.std.specs.Ordering.{as_partial_cmp};
-ghost use Rattle.cd_block.specs.Shard.{shard_cmp};
+ghost use Rattle.cd_block.specs.Shard.{shard_cmp, is_master};
 
 use std::cmp::Ordering;
 
@@ -16,6 +17,16 @@ use std::cmp::Ordering;
 pub struct ShardId {
     pub workchain: i32,
     pub shard: u64,
+}
+
+impl ShardId {
+    /// Whether this is the masterchain's shard.
+    #[tactic(auto, unfolding(crate::specs::Shard::is_master))]
+    pub fn is_master(&self) -> bool
+        ensures { result ≡ is_master self.now }
+    {
+        self.workchain == -1 && self.shard == 0x8000_0000_0000_0000
+    }
 }
 
 impl Ord for ShardId {

@@ -80,3 +80,13 @@ fn a_key_begins_with_the_workchain(rt: HostRuntime) {
     let key = zero_state().to_key();
     assert_eq!(rt; &key[..5], [0xff, 0xff, 0xff, 0xff, 0x80].as_slice());
 }
+
+#[test]
+fn a_description_is_read(rt: HostRuntime) -> Result<(), Fail> {
+    let descr = decode_descr(rt.alloc(), &zero_state().to_key(), &DESCRIPTION)?;
+    assert_eq!(rt; descr.id, zero_state());
+    assert_eq!(rt; descr.root, EMPTY_CELL);
+    assert_eq!(rt; descr.depth, 0);
+    assert!(rt; descr.parents.is_empty() && descr.tops.is_empty() && !descr.leaving);
+    Ok(())
+}
