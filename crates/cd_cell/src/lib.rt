@@ -33,3 +33,6 @@ pub use mask::Mask;
 pub use shown::face_info;
 pub use new_cell::NewCell;
 pub use prepared::Prepared;
+
+#[cfg(test)]
+mod tests;
