@@ -41,8 +41,9 @@ fn empty_cell(rt: HostRuntime) -> Result<(), Fail> {
     let empty = face(false, &[], 0, &[]).ok_or("a face")?;
     let shown = info::<Sha>(&empty).ok_or("well-formed")?;
     let hash = Hash256([
-        0x96, 0xa2, 0x96, 0xd2, 0x24, 0xf2, 0x85, 0xc6, 0x7b, 0xee, 0x93, 0xc3, 0x0f, 0x8a, 0x30, 0x91,
-        0x57, 0xf0, 0xda, 0xa3, 0x5d, 0xc5, 0xb8, 0x7e, 0x41, 0x0b, 0x78, 0x63, 0x0a, 0x09, 0xcf, 0xc7,
+        0x96, 0xa2, 0x96, 0xd2, 0x24, 0xf2, 0x85, 0xc6, 0x7b, 0xee, 0x93, 0xc3, 0x0f, 0x8a, 0x30,
+        0x91, 0x57, 0xf0, 0xda, 0xa3, 0x5d, 0xc5, 0xb8, 0x7e, 0x41, 0x0b, 0x78, 0x63, 0x0a, 0x09,
+        0xcf, 0xc7,
     ]);
     assert_eq!(rt; shown.hashes, [hash; 4]);
     assert_eq!(rt; shown.depths, [0; 4]);
@@ -55,14 +56,20 @@ fn pruned_branch_and_proof_over_it(rt: HostRuntime) -> Result<(), Fail> {
     let bytes = zeros_but(&[(0, 1), (1, 5), (33, 0x0a), (65, 0x14), (67, 3), (69, 7)]);
     let branch = face(true, &bytes, 560, &[]).ok_or("a face")?;
     let shown = info::<WeakSum>(&branch).ok_or("well-formed")?;
-    assert_eq!(rt; shown.hashes, [weak(0x0a), weak(0x14), weak(0x14), weak(0x62)]);
+    assert_eq!(rt;
+        shown.hashes,
+        [weak(0x0a), weak(0x14), weak(0x14), weak(0x62)]
+    );
     assert_eq!(rt; shown.depths, [3, 7, 7, 0]);
 
     let bytes = zeros_but(&[(0, 3), (32, 0x0a), (34, 3)]);
     let proof = face(true, &bytes, 280, &[shown]).ok_or("a face")?;
     let over = info::<WeakSum>(&proof).ok_or("well-formed")?;
     assert_eq!(rt; over.mask.byte(), 2);
-    assert_eq!(rt; over.hashes, [weak(0x7a), weak(0x7a), weak(0x6b), weak(0x6b)]);
+    assert_eq!(rt;
+        over.hashes,
+        [weak(0x7a), weak(0x7a), weak(0x6b), weak(0x6b)]
+    );
     assert_eq!(rt; over.depths, [8, 8, 1, 1]);
 
     let bytes = zeros_but(&[(0, 3), (32, 0x0b), (34, 3)]);
@@ -92,43 +99,136 @@ struct Case {
     answer: Result<Kind, CellFault>,
 }
 
-const fn row(bytes: [(usize, u8); 3], len: u16, refs: usize, answer: Result<Kind, CellFault>) -> Case {
+const NONE: (usize, u8) = (127, 0);
+
+const CASES: [Case; 20] = [
     Case {
-        bytes,
-        len,
-        refs,
-        answer,
-    }
-}
+        bytes: [(0, 2), NONE, NONE],
+        len: 7,
+        refs: 0,
+        answer: Err(CellFault::Short),
+    },
+    Case {
+        bytes: [(0, 2), NONE, NONE],
+        len: 8,
+        refs: 0,
+        answer: Err(CellFault::Length { real: 8 }),
+    },
+    Case {
+        bytes: [(0, 0), NONE, NONE],
+        len: 8,
+        refs: 0,
+        answer: Err(CellFault::KindByte { value: 0 }),
+    },
+    Case {
+        bytes: [(0, 5), NONE, NONE],
+        len: 8,
+        refs: 0,
+        answer: Err(CellFault::KindByte { value: 5 }),
+    },
+    Case {
+        bytes: [(0, 2), NONE, NONE],
+        len: 264,
+        refs: 1,
+        answer: Err(CellFault::Refs { real: 1 }),
+    },
+    Case {
+        bytes: [(0, 2), NONE, NONE],
+        len: 264,
+        refs: 0,
+        answer: Ok(Kind::Library),
+    },
+    Case {
+        bytes: [(0, 2), NONE, NONE],
+        len: 265,
+        refs: 0,
+        answer: Err(CellFault::Length { real: 265 }),
+    },
+    Case {
+        bytes: [(0, 1), (1, 0), NONE],
+        len: 15,
+        refs: 0,
+        answer: Err(CellFault::Length { real: 15 }),
+    },
+    Case {
+        bytes: [(0, 1), (1, 0), NONE],
+        len: 16,
+        refs: 0,
+        answer: Err(CellFault::PrunedMask { value: 0 }),
+    },
+    Case {
+        bytes: [(0, 1), (1, 8), NONE],
+        len: 288,
+        refs: 0,
+        answer: Err(CellFault::PrunedMask { value: 8 }),
+    },
+    Case {
+        bytes: [(0, 1), (1, 7), NONE],
+        len: 831,
+        refs: 0,
+        answer: Err(CellFault::Length { real: 831 }),
+    },
+    Case {
+        bytes: [(0, 1), (1, 7), NONE],
+        len: 832,
+        refs: 0,
+        answer: Ok(Kind::Pruned),
+    },
+    Case {
+        bytes: [(0, 1), (1, 1), (34, 4)],
+        len: 288,
+        refs: 0,
+        answer: Ok(Kind::Pruned),
+    },
+    Case {
+        bytes: [(0, 3), NONE, NONE],
+        len: 280,
+        refs: 2,
+        answer: Err(CellFault::Refs { real: 2 }),
+    },
+    Case {
+        bytes: [(0, 3), NONE, NONE],
+        len: 280,
+        refs: 1,
+        answer: Ok(Kind::Proof),
+    },
+    Case {
+        bytes: [(0, 3), (32, 1), (34, 1)],
+        len: 280,
+        refs: 1,
+        answer: Err(CellFault::MerkleHash { place: 0 }),
+    },
+    Case {
+        bytes: [(0, 3), (34, 1), NONE],
+        len: 280,
+        refs: 1,
+        answer: Err(CellFault::MerkleDepth { place: 0 }),
+    },
+    Case {
+        bytes: [(0, 4), NONE, NONE],
+        len: 552,
+        refs: 2,
+        answer: Ok(Kind::Update),
+    },
+    Case {
+        bytes: [(0, 4), (64, 1), (66, 1)],
+        len: 552,
+        refs: 2,
+        answer: Err(CellFault::MerkleHash { place: 1 }),
+    },
+    Case {
+        bytes: [(0, 4), (68, 1), NONE],
+        len: 552,
+        refs: 2,
+        answer: Err(CellFault::MerkleDepth { place: 1 }),
+    },
+];
 
 #[test]
 fn refusals_at_their_edges(rt: HostRuntime) -> Result<(), Fail> {
     let below = face(false, &[], 0, &[]).ok_or("a face")?;
     let kids = [info::<WeakSum>(&below).ok_or("well-formed")?; 3];
-    let none = (127, 0);
-    let cases = [
-        row([(0, 2), none, none], 7, 0, Err(CellFault::Short)),
-        row([(0, 2), none, none], 8, 0, Err(CellFault::Length { real: 8 })),
-        row([(0, 0), none, none], 8, 0, Err(CellFault::KindByte { value: 0 })),
-        row([(0, 5), none, none], 8, 0, Err(CellFault::KindByte { value: 5 })),
-        row([(0, 2), none, none], 264, 1, Err(CellFault::Refs { real: 1 })),
-        row([(0, 2), none, none], 264, 0, Ok(Kind::Library)),
-        row([(0, 2), none, none], 265, 0, Err(CellFault::Length { real: 265 })),
-        row([(0, 1), (1, 0), none], 15, 0, Err(CellFault::Length { real: 15 })),
-        row([(0, 1), (1, 0), none], 16, 0, Err(CellFault::PrunedMask { value: 0 })),
-        row([(0, 1), (1, 8), none], 288, 0, Err(CellFault::PrunedMask { value: 8 })),
-        row([(0, 1), (1, 7), none], 831, 0, Err(CellFault::Length { real: 831 })),
-        row([(0, 1), (1, 7), none], 832, 0, Ok(Kind::Pruned)),
-        row([(0, 1), (1, 1), (34, 4)], 288, 0, Ok(Kind::Pruned)),
-        row([(0, 3), none, none], 280, 2, Err(CellFault::Refs { real: 2 })),
-        row([(0, 3), none, none], 280, 1, Ok(Kind::Proof)),
-        row([(0, 3), (32, 1), (34, 1)], 280, 1, Err(CellFault::MerkleHash { place: 0 })),
-        row([(0, 3), (34, 1), none], 280, 1, Err(CellFault::MerkleDepth { place: 0 })),
-        row([(0, 4), none, none], 552, 2, Ok(Kind::Update)),
-        row([(0, 4), (64, 1), (66, 1)], 552, 2, Err(CellFault::MerkleHash { place: 1 })),
-        row([(0, 4), (68, 1), none], 552, 2, Err(CellFault::MerkleDepth { place: 1 })),
-    ];
-    for case in &cases {
+    for case in CASES {
         let bytes = zeros_but(&case.bytes);
         let kids = kids.get(..case.refs).ok_or("children")?;
         let made = face(true, &bytes, case.len, kids).ok_or("a face")?;
@@ -138,7 +238,13 @@ fn refusals_at_their_edges(rt: HostRuntime) -> Result<(), Fail> {
     // A stated depth of 1024 passes, and one more doesn't.
     let deep = face(true, &zeros_but(&[(0, 1), (1, 1), (34, 4)]), 288, &[]).ok_or("a face")?;
     assert_eq!(rt; deep.check(), Ok(Kind::Pruned));
-    let deeper = face(true, &zeros_but(&[(0, 1), (1, 1), (34, 4), (35, 1)]), 288, &[]).ok_or("a face")?;
+    let deeper = face(
+        true,
+        &zeros_but(&[(0, 1), (1, 1), (34, 4), (35, 1)]),
+        288,
+        &[],
+    )
+    .ok_or("a face")?;
     assert_eq!(rt; deeper.check(), Err(CellFault::DepthBig { depth: 1025 }));
     Ok(())
 }
@@ -153,8 +259,19 @@ fn bits_of_data(rt: HostRuntime) -> Result<(), Fail> {
     assert_eq!(rt; bits.byte(1), None);
     assert_eq!(rt; Bits::from_slice(&[0xa5, 0xdf], 12), Some(bits));
     assert_eq!(rt; Bits::from_data(&[0xa5, 0x80], false), None);
-    assert_eq!(rt; Bits::from_data(&[0xa5, 0x80], true).ok_or("bits")?.data(), [0xa5, 0x80].as_slice());
+    assert_eq!(rt;
+        Bits::from_data(&[0xa5, 0x80], true).ok_or("bits")?.data(),
+        [0xa5, 0x80].as_slice()
+    );
     let mask = Mask::of(5).ok_or("a mask")?;
-    assert_eq!(rt; (mask.level(), mask.count(), mask.apply(2).byte(), mask.shifted().byte()), (3, 2, 1, 2));
+    assert_eq!(rt;
+        (
+            mask.level(),
+            mask.count(),
+            mask.apply(2).byte(),
+            mask.shifted().byte()
+        ),
+        (3, 2, 1, 2)
+    );
     Ok(())
 }
