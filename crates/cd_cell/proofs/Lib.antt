@@ -9,3 +9,4 @@ pub mod Distinct
 pub mod ExportOrder
 pub mod BagLaws
 pub mod ListedTrees
+pub mod UpdateExamples
