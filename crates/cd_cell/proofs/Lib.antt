@@ -10,3 +10,4 @@ pub mod ExportOrder
 pub mod BagLaws
 pub mod ListedTrees
 pub mod UpdateExamples
+pub mod Showing

@@ -1,7 +1,7 @@
 -- Merkle updates: the old half shows a part of an old tree, and the new half is grafted onto what it shows (TVM
 -- documentation, "Exotic cells"). At Merkle depth d, the number of Merkle cells above inside the half and at most 3,
 -- cells are compared by their levels up to d.
-use Rattle.std.specs.Prelude.{ℕ, zero, suc, ◌+◌, ◌/◌, ◌^◌, IsTrue, Bool, true, false, not, ◌&&◌, nat_eq, ◌==◌, if◌then◌else◌, List, [], ◌∷◌, ◌++◌, find, slice_index_or, Option, Some, None, unwrap_or, Result, Ok, Err}
+use Rattle.std.specs.Prelude.{◌≡◌, ℕ, zero, suc, ◌+◌, ◌/◌, ◌^◌, ◌≤◌, IsTrue, Bool, true, false, not, ◌&&◌, nat_eq, ◌==◌, if◌then◌else◌, List, [], ◌∷◌, ◌++◌, find, slice_index_or, Option, Some, None, unwrap_or, Result, Ok, Err}
 use Rattle.std.specs.Bool.{beq}
 use Rattle.std.specs.Option.{option_or, option_map}
 use Rattle.std.specs.Cmp.Lexicographic.{pointwise}
@@ -29,6 +29,12 @@ same_upto (suc d) a b = same_upto d a b && same_at (suc d) a b
 -- hashes, depths and masks are equal up to level d
 abbrev pub matches : ℕ → ChildInfo → ChildInfo → Bool
 matches d a b = same_upto d a b && nat_eq (lowest_bits a.mask d) (lowest_bits b.mask d)
+
+-- the same as a fact
+pub record Matches (d : ℕ) (a b : ChildInfo) : Type 0 where
+  pub masks : lowest_bits a.mask d ≡ lowest_bits b.mask d
+  pub hashes : (l : ℕ) → l ≤ d → info_hash a l ≡ info_hash b l
+  pub depths : (l : ℕ) → l ≤ d → info_depth a l ≡ info_depth b l
 
 -- a stored face and a shown one have the same flag, bits and number of kids, and each pair of kids matches
 abbrev pub agrees : ℕ → FaceView → FaceView → Bool
