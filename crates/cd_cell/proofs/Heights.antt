@@ -41,7 +41,7 @@ representation-no_kids f mask contents l m none =
     ap (with_kids l) none ∙ sym (ap (with_kids m) none)
 
 -- a pruned branch, or none
-pruned-cases : (kind : Option Kind) → (kind ≡ Some Pruned) ⊎ (is_pruned kind ≡ false)
+pub pruned-cases : (kind : Option Kind) → (kind ≡ Some Pruned) ⊎ (is_pruned kind ≡ false)
 pruned-cases None = inr refl
 pruned-cases (Some Ordinary) = inr refl
 pruned-cases (Some Pruned) = inl refl
@@ -49,16 +49,16 @@ pruned-cases (Some Library) = inr refl
 pruned-cases (Some Proof) = inr refl
 pruned-cases (Some Update) = inr refl
 
-abbrev if_pruned : {A : Type 0} → FaceView → A → A → A
+abbrev pub if_pruned : {A : Type 0} → FaceView → A → A → A
 if_pruned f stated plain = if is_pruned (kind_of_face f) then stated else plain
 
-if_pruned-yes : {A : Type 0} (f : FaceView) → kind_of_face f ≡ Some Pruned → (stated plain : A) → if_pruned f stated plain ≡ stated
+pub if_pruned-yes : {A : Type 0} (f : FaceView) → kind_of_face f ≡ Some Pruned → (stated plain : A) → if_pruned f stated plain ≡ stated
 if_pruned-yes f e stated plain = ap (λ kind. if is_pruned kind then stated else plain) e
 
-if_pruned-no : {A : Type 0} (f : FaceView) → is_pruned (kind_of_face f) ≡ false → (stated plain : A) → if_pruned f stated plain ≡ plain
+pub if_pruned-no : {A : Type 0} (f : FaceView) → is_pruned (kind_of_face f) ≡ false → (stated plain : A) → if_pruned f stated plain ≡ plain
 if_pruned-no f e stated plain = ap (λ pruned. if pruned then stated else plain) e
 
-no_kids-pruned : (f : FaceView) → IsFaceFit f → kind_of_face f ≡ Some Pruned → f.kids ≡ []
+pub no_kids-pruned : (f : FaceView) → IsFaceFit f → kind_of_face f ≡ Some Pruned → f.kids ≡ []
 no_kids-pruned f fit e = nil_from_length f.kids (fit.pruned e).refs
 
 module _ (f : FaceView) where
@@ -71,7 +71,7 @@ module _ (f : FaceView) where
       let count = bit_count (mask_of_face f) in
       ap (λ place. if nat_lt place count then stated_depth f (2 + 32 * count + 2 * place) else 0) (lowest_count-same (mask_of_face f) l below off)
 
-  depth_of_face-same : (l : ℕ) → l < 3 → is_significant (mask_of_face f) (l + 1) ≡ false → depth_of_face f (l + 1) ≡ depth_of_face f l
+  pub depth_of_face-same : (l : ℕ) → l < 3 → is_significant (mask_of_face f) (l + 1) ≡ false → depth_of_face f (l + 1) ≡ depth_of_face f l
   depth_of_face-same zero below off = ap₂ (if_pruned f) (pruned_depth-same 0 below off) (plain_depth-same 0 off)
   depth_of_face-same (suc zero) below off = ap₂ (if_pruned f) (pruned_depth-same 1 below off) (plain_depth-same 1 off)
   depth_of_face-same (suc (suc zero)) below off = ap₂ (if_pruned f) (pruned_depth-same 2 below off) (plain_depth-same 2 off)
@@ -108,7 +108,7 @@ module _ (f : FaceView) where
 
 -- ---- the masks of children, joined
 
-abbrev joined : ℕ → List ChildInfo → ℕ
+abbrev pub joined : ℕ → List ChildInfo → ℕ
 joined mask ks = fold (λ m k. bit_or m k.mask) mask ks
 
 -- a bit of no child isn't set
@@ -119,7 +119,7 @@ joined-clear mask i (k ∷ ks) clear =
     let both : max (bit_at mask i) (bit_at k.mask i) ≡ 0 = sym (bit_at_or mask k.mask i) ∙ rest.0 in
     (omega arith, All-cons (λ k. bit_at k.mask i ≡ 0) k ks (omega arith) rest.1)
 
-joined-small : (mask : ℕ) (ks : List ChildInfo) → mask ≤ 7 → All (λ k. k.mask ≤ 7) ks → joined mask ks ≤ 7
+pub joined-small : (mask : ℕ) (ks : List ChildInfo) → mask ≤ 7 → All (λ k. k.mask ≤ 7) ks → joined mask ks ≤ 7
 joined-small mask [] small all = small
 joined-small mask (k ∷ ks) small all =
     let head : k.mask ≤ 7 = All-head (λ k. k.mask ≤ 7) k ks all in
@@ -132,7 +132,7 @@ bit-clear mask (suc zero) below off = let clear : mask / 2 % 2 ≢ 1 = eqb-false
 bit-clear mask (suc (suc zero)) below off = let clear : mask / 4 % 2 ≢ 1 = eqb-false _ _ off in omega arith
 bit-clear mask (suc (suc (suc l))) below off = absurd (omega arith)
 
-clear-bit : (mask l : ℕ) → l < 3 → bit_at mask l ≡ 0 → is_significant mask (l + 1) ≡ false
+pub clear-bit : (mask l : ℕ) → l < 3 → bit_at mask l ≡ 0 → is_significant mask (l + 1) ≡ false
 clear-bit mask zero below clear = ne_eqb (mask / 1 % 2) 1 (λ e. omega arith)
 clear-bit mask (suc zero) below clear = ne_eqb (mask / 2 % 2) 1 (λ e. omega arith)
 clear-bit mask (suc (suc zero)) below clear = ne_eqb (mask / 4 % 2) 1 (λ e. omega arith)

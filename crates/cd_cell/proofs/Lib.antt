@@ -11,3 +11,4 @@ pub mod BagLaws
 pub mod ListedTrees
 pub mod UpdateExamples
 pub mod Showing
+pub mod Grafting

@@ -59,7 +59,7 @@ matches-Decides d a b =
 
 -- ---- the old half
 
-no_option : {A : Type 0} (o p : Option A) → option_or o p ≡ None → (o ≡ None) × (p ≡ None)
+pub no_option : {A : Type 0} (o p : Option A) → option_or o p ≡ None → (o ≡ None) × (p ≡ None)
 no_option None p e = (refl, e)
 no_option (Some x) p e = cc
 
