@@ -30,10 +30,10 @@ use Rattle.cd_cell.proofs.LevelRecursions.{hash_of_info, depth_of_info, below_me
 use Rattle.cd_cell.proofs.Showing.{no_option}
 
 -- what a grafted cell shows, beside what the cell of the new half shows: the mask up to level d, and hashes and depths there
-record IsKept (d : ℕ) (old new : ChildInfo) : Type 0 where
-  mask : new.mask ≡ lowest_bits old.mask d
-  hashes : (l : ℕ) → l ≤ d → info_hash new l ≡ info_hash old l
-  depths : (l : ℕ) → l ≤ d → info_depth new l ≡ info_depth old l
+pub record IsKept (d : ℕ) (old new : ChildInfo) : Type 0 where
+  pub mask : new.mask ≡ lowest_bits old.mask d
+  pub hashes : (l : ℕ) → l ≤ d → info_hash new l ≡ info_hash old l
+  pub depths : (l : ℕ) → l ≤ d → info_depth new l ≡ info_depth old l
 
 -- the same of children in their places
 abbrev AreKept : ℕ → List ChildInfo → List ChildInfo → Type 0
@@ -294,7 +294,7 @@ joined-from : (acc : ℕ) (ks : List ChildInfo) → acc ≤ fold (λ m k. bit_or
 joined-from acc [] = le_refl acc
 joined-from acc (k ∷ ks) = le_trans (le_or_l acc k.mask) (joined-from (bit_or acc k.mask) ks)
 
-joined-bound : (acc : ℕ) (ks : List ChildInfo) → All (λ k. k.mask ≤ fold (λ m k. bit_or m k.mask) acc ks) ks
+pub joined-bound : (acc : ℕ) (ks : List ChildInfo) → All (λ k. k.mask ≤ fold (λ m k. bit_or m k.mask) acc ks) ks
 joined-bound acc [] = All-nil _
 joined-bound acc (k ∷ ks) =
     All-cons (λ x. x.mask ≤ fold (λ m k. bit_or m k.mask) (bit_or acc k.mask) ks) k ks (le_trans (le_or_r acc k.mask) (joined-from (bit_or acc k.mask) ks)) (joined-bound (bit_or acc k.mask) ks)
@@ -338,10 +338,10 @@ module _ (exotic : Bool) (bits : List Bool) (ks gs : List ChildInfo) (d : ℕ) (
 -- ---- whole trees
 
 -- a tree that was found for a hidden cell
-record IsFound (H : List ℕ → Hash256) (n : Tree) (d : ℕ) (known : Tree) : Type 0 where
-  well : IsWellFormed H known
-  low : mask_of H known / 2 ^ d ≡ 0
-  same : Matches d (info_of H known) (info_of H n)
+pub record IsFound (H : List ℕ → Hash256) (n : Tree) (d : ℕ) (known : Tree) : Type 0 where
+  pub well : IsWellFormed H known
+  pub low : mask_of H known / 2 ^ d ≡ 0
+  pub same : Matches d (info_of H known) (info_of H n)
 
 -- a number below a power has no part above it
 low-whole : (m d : ℕ) → m / 2 ^ d ≡ 0 → m ≡ lowest_bits m d
@@ -357,9 +357,9 @@ IsKept-found H n d known found =
     }
 
 module _ (H : List ℕ → Hash256) (search : Tree → ℕ → Option Tree) (finds : (n : Tree) (d : ℕ) (known : Tree) → search n d ≡ Some known → IsFound H n d known) where
-  record IsGraft (d : ℕ) (n g : Tree) : Type 0 where
-    well : IsWellFormed H g
-    kept : IsKept d (info_of H n) (info_of H g)
+  pub record IsGraft (d : ℕ) (n g : Tree) : Type 0 where
+    pub well : IsWellFormed H g
+    pub kept : IsKept d (info_of H n) (info_of H g)
 
   record AreGrafts (d : ℕ) (ns gs : Trees) : Type 0 where
     well : AreWellFormed H gs
@@ -386,7 +386,7 @@ module _ (H : List ℕ → Hash256) (search : Tree → ℕ → Option Tree) (fin
   graft-step n d false whole rest hides shows e = shows e refl
 
   mutual
-    grafted-is : (n : Tree) (d : ℕ) → d ≤ 3 → IsWellFormed H n → mask_of H n < 2 ^ (d + 1) → first_foreign H search n d ≡ None → IsGraft d n (grafted H search n d)
+    pub grafted-is : (n : Tree) (d : ℕ) → d ≤ 3 → IsWellFormed H n → mask_of H n < 2 ^ (d + 1) → first_foreign H search n d ≡ None → IsGraft d n (grafted H search n d)
     grafted-is (cell exotic bits ns) d top good low none =
         let n = cell exotic bits ns in
         let shown = face_of H n in

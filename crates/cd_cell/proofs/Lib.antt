@@ -12,3 +12,4 @@ pub mod ListedTrees
 pub mod UpdateExamples
 pub mod Showing
 pub mod Grafting
+pub mod AppliedUpdates

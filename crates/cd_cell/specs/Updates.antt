@@ -44,6 +44,10 @@ agrees d stored shown = (beq stored.exotic shown.exotic && same_bits stored.bits
 abbrev pub is_hidden : ℕ → FaceView → Bool
 is_hidden d f = is_pruned (kind_of_face f) && (level_of_mask (mask_of_face f) == d + 1)
 
+-- a known cell stands for it: it has no level above d, and matches it
+abbrev pub stands_for : ChildInfo → ℕ → ChildInfo → Bool
+stands_for hidden d known = nat_eq (known.mask / 2 ^ d) 0 && matches d known hidden
+
 -- the fact, where the test fails
 abbrev pub Unless : Bool → Type 0 → Type 0
 Unless true P = Unit {0}
@@ -75,6 +79,10 @@ missing (Some t) hash = None
 abbrev pub or_refused : {A R : Type 0} → Option R → A → Result A R
 or_refused None value = Ok value
 or_refused (Some refusal) value = Err refusal
+
+-- the halves of an update are its first and its second child
+abbrev pub half_of : Tree → ℕ → Tree
+half_of u place = slice_index_or (children u) place no_tree
 
 module _ (H : List ℕ → Hash256) where
   -- ---- the old half
@@ -131,10 +139,6 @@ module _ (H : List ℕ → Hash256) where
 
   -- ---- the new half
 
-  -- a known cell stands for a hidden one: it has no level above d, and matches it
-  abbrev pub stands_for : ChildInfo → ℕ → ChildInfo → Bool
-  stands_for hidden d known = nat_eq (known.mask / 2 ^ d) 0 && matches d known hidden
-
   -- the first known cell that does
   abbrev pub found_in : List Tree → Tree → ℕ → Option Tree
   found_in known n d = find (λ k. stands_for (info_of H n) d (info_of H k)) known
@@ -175,22 +179,32 @@ module _ (H : List ℕ → Hash256) where
 
   -- ---- the update
 
-  -- the halves of an update are its first and its second child
-  abbrev pub half_of : Tree → ℕ → Tree
-  half_of u place = slice_index_or (children u) place no_tree
-
   -- the cells that the old half meets
   abbrev pub known_of : Tree → Tree → List Tree
   known_of u t = known_cells (half_of u 0) t 0
 
+  -- the update states another hash or depth of the old tree at level 0 than it has
+  abbrev pub hash_refusal : Tree → Tree → Option UpdateRefusal
+  hash_refusal u t =
+      let stated = stated_hash (face_of H u) 1 in
+      some_unless (same_hash stated (hash_at H t 0)) (old_hash stated (hash_at H t 0))
+
+  abbrev pub depth_refusal : Tree → Tree → Option UpdateRefusal
+  depth_refusal u t =
+      let stated = stated_depth_of_kid (face_of H u) 0 in
+      some_unless (stated == depth_at H t 0) (old_depth stated (depth_at H t 0))
+
+  -- the old half doesn't show the tree
+  abbrev pub half_refusal : Tree → Tree → Option UpdateRefusal
+  half_refusal u t = option_map old_half (misfit (half_of u 0) t 0)
+
+  -- the new half hides a cell that isn't known
+  abbrev pub graft_refusal : Tree → Tree → Option UpdateRefusal
+  graft_refusal u t = option_map foreign (first_foreign (found_in (known_of u t)) (half_of u 1) 0)
+
   -- the first refusal
   abbrev pub refusal_of : Tree → Tree → Option UpdateRefusal
-  refusal_of u t =
-      let stated = face_of H u in
-      option_or (some_unless (same_hash (stated_hash stated 1) (hash_at H t 0)) (old_hash (stated_hash stated 1) (hash_at H t 0)))
-      (option_or (some_unless (stated_depth_of_kid stated 0 == depth_at H t 0) (old_depth (stated_depth_of_kid stated 0) (depth_at H t 0)))
-      (option_or (option_map old_half (misfit (half_of u 0) t 0))
-      (option_map foreign (first_foreign (found_in (known_of u t)) (half_of u 1) 0))))
+  refusal_of u t = option_or (hash_refusal u t) (option_or (depth_refusal u t) (option_or (half_refusal u t) (graft_refusal u t)))
 
   -- the new tree: the update applied to an old tree
   abbrev pub applied : Tree → Tree → Result Tree UpdateRefusal
