@@ -27,7 +27,7 @@ use Rattle.cd_cell.proofs.Showing.{no_option, matches-Decides, subtree-known}
 use Rattle.cd_cell.proofs.Grafting.{IsFound, joined-bound, grafted-is}
 
 -- what is found passes the test and is an element
-find-Some : {A : Type 0} (p : A → Bool) (xs : List A) (x : A) → find p xs ≡ Some x → (p x ≡ true) × Contains xs x
+pub find-Some : {A : Type 0} (p : A → Bool) (xs : List A) (x : A) → find p xs ≡ Some x → (p x ≡ true) × Contains xs x
 find-Some p [] x e = absurd (cc e)
 find-Some p (y ∷ ys) x e = go (p y) refl e (λ later. find-Some p ys x later)
   where
@@ -35,7 +35,7 @@ find-Some p (y ∷ ys) x e = go (p y) refl e (λ later. find-Some p ys x later)
     go true pass e later = let same : y ≡ x = cc e in (ap p (sym same) ∙ pass, subst (Contains (y ∷ ys)) same (Contains-first y ys))
     go false pass e later = let found = later e in (found.0, Contains-later y ys x found.1)
 
-ok-from : {A R : Type 0} (o : Option R) (x y : A) → or_refused o x ≡ Ok y → (o ≡ None) × (x ≡ y)
+pub ok-from : {A R : Type 0} (o : Option R) (x y : A) → or_refused o x ≡ Ok y → (o ≡ None) × (x ≡ y)
 ok-from None x y e = (refl, cc e)
 ok-from (Some r) x y e = absurd (cc e)
 
@@ -60,7 +60,7 @@ module _ (H : List ℕ → Hash256) (u t : Tree) (good_u : IsWellFormed H u) (go
         same = (matches-Decides d (info_of H known) (info_of H n)).0 both.1;
       }
 
-  no_refusal : refusal_of H u t ≡ None → (misfit H (half_of u 0) t 0 ≡ None) × (first_foreign H (found_in H (known_of H u t)) (half_of u 1) 0 ≡ None)
+  pub no_refusal : refusal_of H u t ≡ None → (misfit H (half_of u 0) t 0 ≡ None) × (first_foreign H (found_in H (known_of H u t)) (half_of u 1) 0 ≡ None)
   no_refusal e =
       let later = no_option (hash_refusal H u t) (option_or (depth_refusal H u t) (option_or (half_refusal H u t) (graft_refusal H u t))) e in
       let last = no_option (depth_refusal H u t) (option_or (half_refusal H u t) (graft_refusal H u t)) later.1 in

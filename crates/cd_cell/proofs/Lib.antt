@@ -13,3 +13,4 @@ pub mod UpdateExamples
 pub mod Showing
 pub mod Grafting
 pub mod AppliedUpdates
+pub mod NewCells
