@@ -1,5 +1,5 @@
 -- The laws of the applied update: the new tree is well-formed, of mask 0, and its rep is the stated new hash.
-use Rattle.std.proofs.Common.{◌≡◌, ℕ, zero, suc, ◌+◌, ◌*◌, ◌/◌, ◌^◌, ◌≤◌, ◌<◌, List, [], ◌∷◌, ◌++◌, length, get_or, map, find, All, Contains, Bool, true, false, ◌&&◌, nat_eq, cond, Option, Some, None, Result, Ok, Err, refl, ap, sym, ◌∙◌, subst, inl, inr, ⊎_elim, ◌⊎◌, arith, eqb-true}
+use Rattle.std.proofs.Common.{◌≡◌, ℕ, ◌+◌, ◌/◌, ◌^◌, ◌≤◌, ◌<◌, List, [], ◌∷◌, length, get_or, find, Contains, Bool, true, false, nat_eq, cond, Option, Some, None, Ok, refl, ap, sym, ◌∙◌, subst, arith, eqb-true}
 use Rattle.std.specs.Option.{option_or, option_map}
 use Rattle.std.specs.Int.{bit_at}
 use Rattle.std.proofs.lemmas.Nat.Bits.{bit_at-zero}
@@ -11,18 +11,16 @@ use Rattle.cd_cell.specs.declared.info.ChildInfo.{ChildInfo}
 use Rattle.cd_cell.specs.declared.kind.Kind.TheVariants.{Update}
 use Rattle.cd_cell.specs.Masks.{is_significant}
 use Rattle.cd_cell.specs.Infos.{info_hash, all_masks}
-use Rattle.cd_cell.specs.FaceView.{FaceView}
-use Rattle.cd_cell.specs.Levels.{kind_of_face, mask_by_kind, stated_hash}
+use Rattle.cd_cell.specs.Levels.{mask_by_kind, stated_hash}
 use Rattle.cd_cell.specs.BitText.{data_of}
 use Rattle.cd_cell.specs.CellFaults.{kid_at, no_info}
 use Rattle.cd_cell.specs.Fit.{IsFaceFit}
 use Rattle.cd_cell.specs.Steady.{IsSteady}
-use Rattle.cd_cell.specs.Tree.{Tree, cell, children, subtrees, info_of, infos_of, face_of, kind_of, mask_of, rep_of, hash_at, IsWellFormed}
+use Rattle.cd_cell.specs.Tree.{Tree, children, info_of, face_of, kind_of, mask_of, rep_of, IsWellFormed}
 use Rattle.cd_cell.specs.Unfolding.{no_tree}
-use Rattle.cd_cell.specs.GoodFace.{IsGoodFace}
-use Rattle.cd_cell.specs.Updates.{Matches, matches, stands_for, found_in, known_of, half_of, missing, first_foreign, grafted, misfit, some_unless, or_refused, old_half, foreign, hash_refusal, depth_refusal, half_refusal, graft_refusal, refusal_of, applied}
-use Rattle.cd_cell.proofs.Subtrees.{Contains-first, Contains-later, Contains-cases, Contains-nil, info_of-face_of, kids-face_of, IsGoodFace-face_of, well_formed-child, well_formed-subtree}
-use Rattle.cd_cell.proofs.Heights.{clear-bit, joined-small, IsSteady-info_of, IsSteady-infos_of}
+use Rattle.cd_cell.specs.Updates.{matches, stands_for, found_in, known_of, half_of, first_foreign, grafted, misfit, or_refused, old_half, foreign, hash_refusal, depth_refusal, half_refusal, graft_refusal, refusal_of, applied}
+use Rattle.cd_cell.proofs.Subtrees.{Contains-first, Contains-later, info_of-face_of, kids-face_of, IsGoodFace-face_of, well_formed-child, well_formed-subtree}
+use Rattle.cd_cell.proofs.Heights.{clear-bit, IsSteady-info_of}
 use Rattle.cd_cell.proofs.Showing.{no_option, matches-Decides, subtree-known}
 use Rattle.cd_cell.proofs.Grafting.{IsFound, joined-bound, grafted-is}
 
@@ -94,7 +92,7 @@ module _ (H : List ℕ → Hash256) (u t : Tree) (good_u : IsWellFormed H u) (go
     mask-half =
         let kids = (face_of H u).kids in
         let halved : all_masks kids / 2 ≡ 0 =
-            sym (ap (λ kind. mask_by_kind kind (data_of (face_of H u).bits) kids) is_update) ∙ sym (ap (λ k. k.mask) (info_of-face_of H u)) ∙ plain
+        sym (ap (λ kind. mask_by_kind kind (data_of (face_of H u).bits) kids) is_update) ∙ sym (ap (λ k. k.mask) (info_of-face_of H u)) ∙ plain
         in
         let bound : (kid_at (face_of H u) 1).mask ≤ all_masks kids = joined-bound 0 kids 1 no_info (omega (arith, (fit.update is_update).refs)) in
         let same : mask_of H new_half ≡ (kid_at (face_of H u) 1).mask = ap (λ k. k.mask) (sym kid-half) in
@@ -114,8 +112,8 @@ module _ (H : List ℕ → Hash256) (u t : Tree) (good_u : IsWellFormed H u) (go
           well = graft.well;
           plain = new_mask;
           rep =
-            one_hash (info_of H new) (IsSteady-info_of H new graft.well) new_mask
-            ∙ graft.kept.hashes 0 (omega arith)
-            ∙ sym (ap (λ k. info_hash k 0) kid-half)
-            ∙ sym (fit.update is_update).after.hash;
+              one_hash (info_of H new) (IsSteady-info_of H new graft.well) new_mask
+              ∙ graft.kept.hashes 0 (omega arith)
+              ∙ sym (ap (λ k. info_hash k 0) kid-half)
+              ∙ sym (fit.update is_update).after.hash;
         })

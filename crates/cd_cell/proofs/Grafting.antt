@@ -1,6 +1,6 @@
 -- The law of the applied update: a graft keeps what the new half shows up to its Merkle depth, so the new tree is
 -- well-formed, has mask 0, and its rep is the stated new hash.
-use Rattle.std.proofs.Common.{◌≡◌, ℕ, zero, suc, ◌+◌, ◌-◌, ◌*◌, ◌/◌, ◌%◌, ◌^◌, ◌≤◌, ◌<◌, min, max, List, [], ◌∷◌, ◌++◌, length, get_or, map, fold, flat_map, All, Contains, Bool, true, false, true≢false, ◌&&◌, ◌||◌, nat_eq, nat_lt, ◌==◌, bit_or, if◌then◌else◌, Option, Some, None, refl, ap, ap₂, sym, ◌∙◌, subst, inl, inr, ⊎_elim, ◌⊎◌, add-one, le_refl, mul-zero, zero-add, le_trans, lt_of_le_of_lt, mod-lt, mod-eq_of_lt, pow_pos, eq-or-lt_of_le, arith, eqb-true}
+use Rattle.std.proofs.Common.{◌≡◌, ℕ, zero, suc, ◌+◌, ◌-◌, ◌*◌, ◌/◌, ◌%◌, ◌^◌, ◌≤◌, ◌<◌, max, List, [], ◌∷◌, ◌++◌, length, get_or, fold, flat_map, All, Bool, true, false, true≢false, ◌&&◌, ◌||◌, ◌==◌, bit_or, if◌then◌else◌, Option, Some, None, refl, ap, ap₂, sym, ◌∙◌, subst, ⊎_elim, add-one, le_refl, mul-zero, zero-add, le_trans, lt_of_le_of_lt, mod-lt, mod-eq_of_lt, pow_pos, eq-or-lt_of_le, arith}
 use Rattle.std.specs.Int.{w16, to_be_bytes, bit_at}
 use Rattle.std.proofs.lemmas.Nat.Bits.{bit_at_above}
 use Rattle.std.proofs.lemmas.Bool.{cases_lt}
@@ -14,15 +14,14 @@ use Rattle.cd_base.specs.declared.hash.Hash256.{Hash256}
 use Rattle.cd_cell.specs.declared.info.ChildInfo.{ChildInfo}
 use Rattle.cd_cell.specs.declared.kind.Kind.{Kind}
 use Rattle.cd_cell.specs.declared.kind.Kind.TheVariants.{Ordinary, Pruned, Library, Proof, Update}
-use Rattle.cd_cell.specs.Masks.{lowest_bits, is_significant, bit_count, level_of_mask}
+use Rattle.cd_cell.specs.Masks.{lowest_bits, is_significant, level_of_mask}
 use Rattle.cd_cell.specs.BitText.{data_of}
 use Rattle.cd_cell.specs.Infos.{info_hash, info_depth, all_masks, depth_above}
 use Rattle.cd_cell.specs.FaceView.{FaceView}
-use Rattle.cd_cell.specs.Levels.{kind_of_face, mask_by_kind, mask_of_face, kid_level, stated_depth, stated_hash, descriptor1, descriptor2, representation, is_pruned, is_merkle, below_merkle, plain_depth, depth_of_face, plain_hash, hash_of_face, info_of_face}
-use Rattle.cd_cell.specs.CellFaults.{kid_at, no_info, second_byte}
+use Rattle.cd_cell.specs.Levels.{kind_of_face, mask_by_kind, mask_of_face, kid_level, stated_depth, representation, is_pruned, is_merkle, below_merkle, plain_depth, depth_of_face, plain_hash, hash_of_face, info_of_face}
+use Rattle.cd_cell.specs.CellFaults.{no_info, second_byte}
 use Rattle.cd_cell.specs.Fit.{IsFaceFit, IsPrunedFace, StatesKid}
-use Rattle.cd_cell.specs.Steady.{IsSteady}
-use Rattle.cd_cell.specs.Tree.{Tree, cell, Trees, no_trees, tree_and, list_of, children, subtrees, info_of, infos_of, face_of, kind_of, mask_of, rep_of, hash_at, IsWellFormed, AreWellFormed}
+use Rattle.cd_cell.specs.Tree.{Tree, cell, Trees, no_trees, tree_and, list_of, info_of, infos_of, face_of, mask_of, hash_at, IsWellFormed, AreWellFormed}
 use Rattle.cd_cell.specs.Updates.{is_hidden, Matches, missing, first_foreign, foreign_of_all, grafted, grafted_all}
 use Rattle.cd_cell.specs.Unfolding.{no_tree}
 use Rattle.cd_cell.proofs.Heights.{pruned-cases, clear-bit, joined-small, IsSteady-infos_of, depth_of_face-same, if_pruned-no, no_kids-pruned}
@@ -163,9 +162,9 @@ module _ (H : List ℕ → Hash256) (exotic : Bool) (bits : List Bool) (ks gs : 
     plain_hash-kept (suc l) low =
         let below = plain_hash-kept l (omega arith) in
         let text =
-            ap (λ m. representation after m (plain_hash H after l).0 (kid_level after (suc l))) (lowest-kept (suc l) low)
-            ∙ ap (λ h. representation after (lowest_bits (mask_of_face before) (suc l)) h.0 (kid_level after (suc l))) below
-            ∙ representation-kept (lowest_bits (mask_of_face before) (suc l)) (plain_hash H before l).0 (suc l) low
+        ap (λ m. representation after m (plain_hash H after l).0 (kid_level after (suc l))) (lowest-kept (suc l) low)
+        ∙ ap (λ h. representation after (lowest_bits (mask_of_face before) (suc l)) h.0 (kid_level after (suc l))) below
+        ∙ representation-kept (lowest_bits (mask_of_face before) (suc l)) (plain_hash H before l).0 (suc l) low
         in
         ap (λ b. if b then H (representation after (lowest_bits (mask_of_face after) (suc l)) (plain_hash H after l).0 (kid_level after (suc l))) else plain_hash H after l) (significant-kept (suc l) low)
         ∙ ap₂ (λ here below. if is_significant (mask_of_face before) (suc l) then here else below) (ap H text) below
@@ -221,8 +220,8 @@ module _ (H : List ℕ → Hash256) (exotic : Bool) (bits : List Bool) (ks gs : 
           ⊎_elim
           (λ same. ap (depth_of_face after) (sym same))
           (λ above.
-              let more : d ≤ l = omega arith in
-              ap (depth_of_face after) (sym (add-one l)) ∙ depth_of_face-same after l (omega arith) (above-clear l more (omega arith)) ∙ depth-above l more (omega arith))
+          let more : d ≤ l = omega arith in
+          ap (depth_of_face after) (sym (add-one l)) ∙ depth_of_face-same after l (omega arith) (above-clear l more (omega arith)) ∙ depth-above l more (omega arith))
           (eq-or-lt_of_le from)
 
       depths-low : (l : ℕ) → l ≤ 3 → depth_of_face after l ≤ 1024
@@ -241,12 +240,12 @@ module _ (H : List ℕ → Hash256) (exotic : Bool) (bits : List Bool) (ks gs : 
             library = λ e. record { refs = same_refs ∙ (fit.library e).refs; bits = (fit.library e).bits };
             proof = λ e. record { refs = same_refs ∙ (fit.proof e).refs; bits = (fit.proof e).bits; kid = states-kept 0 (omega (arith, (fit.proof e).refs)) (fit.proof e).kid };
             update =
-              λ e. record {
-                refs = same_refs ∙ (fit.update e).refs;
-                bits = (fit.update e).bits;
-                before = states-kept 0 (omega (arith, (fit.update e).refs)) (fit.update e).before;
-                after = states-kept 1 (omega (arith, (fit.update e).refs)) (fit.update e).after;
-              };
+                λ e. record {
+                  refs = same_refs ∙ (fit.update e).refs;
+                  bits = (fit.update e).bits;
+                  before = states-kept 0 (omega (arith, (fit.update e).refs)) (fit.update e).before;
+                  after = states-kept 1 (omega (arith, (fit.update e).refs)) (fit.update e).after;
+                };
             depths = depths-low;
           }
 
@@ -395,8 +394,8 @@ module _ (H : List ℕ → Hash256) (search : Tree → ℕ → Option Tree) (fin
         graft-step n d (is_hidden d shown) (cell exotic bits (grafted_all H search ns kd)) (foreign_of_all H search ns kd)
         (λ e h. found-step n d (search n d) (finds n d) e)
         (λ e h.
-            cell-step exotic bits ns (grafted_all H search ns kd) d top good low h
-            (grafts-are ns kd (below_merkle-low (is_merkle (kind_of_face shown)) d top) good.3 (kids-low exotic bits (infos_of H ns) (infos_of H ns) d top small good.2 low) e))
+        cell-step exotic bits ns (grafted_all H search ns kd) d top good low h
+        (grafts-are ns kd (below_merkle-low (is_merkle (kind_of_face shown)) d top) good.3 (kids-low exotic bits (infos_of H ns) (infos_of H ns) d top small good.2 low) e))
         none
 
     grafts-are : (ns : Trees) (d : ℕ) → d ≤ 3 → AreWellFormed H ns → All (λ k. k.mask < 2 ^ (d + 1)) (infos_of H ns) → foreign_of_all H search ns d ≡ None → AreGrafts d ns (grafted_all H search ns d)

@@ -297,8 +297,8 @@ module _ (f : FaceView) (fit : IsFaceFit f) (k : ChildInfo) (in' : Contains f.ki
       ⊎_elim
       (λ e. absurd (some_kid (fit.pruned e).refs))
       (λ e.
-          let lower = plain_depth-above 3 (omega arith) in
-          omega (arith, if_pruned-no f e (pruned_depth f 3) (plain_depth f 3), ap (info_depth k) (whole_level (is_merkle (kind_of_face f)))))
+      let lower = plain_depth-above 3 (omega arith) in
+      omega (arith, if_pruned-no f e (pruned_depth f 3) (plain_depth f 3), ap (info_depth k) (whole_level (is_merkle (kind_of_face f)))))
       (pruned-cases (kind_of_face f))
 
 height_of_face-kids : (f : FaceView) → IsFaceFit f → All IsSteady f.kids → All (λ k. height_of_info k < height_of_face f) f.kids

@@ -14,3 +14,4 @@ pub mod Showing
 pub mod Grafting
 pub mod AppliedUpdates
 pub mod NewCells
+pub mod Wanted

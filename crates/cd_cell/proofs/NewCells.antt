@@ -1,19 +1,19 @@
 -- Laws of an update's new cells: listed in the order of an export they are valid over the old tree, and stand for the
 -- applied tree.
-use Rattle.std.proofs.Common.{◌≡◌, ℕ, zero, suc, ◌+◌, ◌≤◌, ◌<◌, List, [], ◌∷◌, ◌++◌, length, get_or, drop, map, find, flat_map, All, AllPairs, Contains, Less, Equal, Bool, true, false, if◌then◌else◌, Option, Some, None, Result, Ok, refl, ap, sym, ◌∙◌, subst, inl, inr, ⊎_elim, ◌⊎◌, arith}
-use Rattle.std.specs.Option.{option_or, unwrap_or}
+use Rattle.std.proofs.Common.{◌≡◌, ℕ, suc, List, [], ◌∷◌, ◌++◌, get_or, drop, map, flat_map, Contains, Less, Bool, true, false, if◌then◌else◌, Option, Some, None, Ok, refl, ap, sym, ◌∙◌, subst, inl, inr, ⊎_elim, ◌⊎◌}
+use Rattle.std.specs.Option.{unwrap_or}
 use Rattle.std.proofs.lemmas.List.{get_or_default}
 use Rattle.std.proofs.lemmas.List.Elements.{Contains-get_or, Contains-append_cases, Contains-append_left, Contains-append_right}
 use Rattle.cd_base.specs.declared.hash.Hash256.{Hash256}
 use Rattle.cd_cell.specs.declared.kind.Kind.TheVariants.{Update}
 use Rattle.cd_cell.specs.Infos.{rep_of_info}
 use Rattle.cd_cell.specs.Levels.{kid_level}
-use Rattle.cd_cell.specs.Tree.{Tree, cell, Trees, no_trees, tree_and, list_of, children, subtrees, subtrees_of_all, info_of, face_of, kind_of, mask_of, rep_of, height_of, hash_at, IsWellFormed}
+use Rattle.cd_cell.specs.Tree.{Tree, cell, Trees, no_trees, tree_and, list_of, children, subtrees, subtrees_of_all, info_of, face_of, kind_of, mask_of, rep_of, hash_at, IsWellFormed}
 use Rattle.cd_cell.specs.Unfolding.{no_tree}
 use Rattle.cd_cell.specs.Export.{export_cmp, sorted_distinct, AreDistinct, AreClashFree}
-use Rattle.cd_cell.specs.Listings.{new_cell_of, IsValid, old_cells, Fits, tree_of}
+use Rattle.cd_cell.specs.Listings.{new_cell_of, IsValid, Fits, tree_of}
 use Rattle.cd_cell.specs.Updates.{is_hidden, missing, found_in, known_of, half_of, first_foreign, foreign_of_all, grafted, grafted_all, own_cells, own_of_all, refusal_of, applied, new_cells}
-use Rattle.cd_cell.proofs.Subtrees.{Contains-first, Contains-later, Contains-cases, Contains-nil, subtree-itself, child-is-subtree, well_formed-subtree, flat_map-listed, same_subtrees}
+use Rattle.cd_cell.proofs.Subtrees.{Contains-first, Contains-later, Contains-cases, Contains-nil, subtree-itself, well_formed-subtree, flat_map-listed, same_subtrees}
 use Rattle.cd_cell.proofs.Heights.{height_of-child}
 use Rattle.cd_cell.proofs.Distinct.{AreDistinct-sorted_distinct, Contains-distinct, before-rising}
 use Rattle.cd_cell.proofs.ExportOrder.{export_cmp-total, export_cmp-higher, export_cmp-ties}
@@ -47,15 +47,15 @@ module _ (H : List ℕ → Hash256) (search : Tree → ℕ → Option Tree) wher
       let both = no_option (first_foreign H search n d) (foreign_of_all H search ns d) none in
       ⊎_elim
       (λ same.
-          ⊎_elim
-          (λ own. inl (subst (Contains (own_of_all H search (tree_and n ns) d)) same (Contains-append_left (own_cells H search n d) (own_of_all H search ns d) (grafted H search n d) own)))
-          (λ found. inr (subst WasFound same found))
-          (own-root n d both.0))
+      ⊎_elim
+      (λ own. inl (subst (Contains (own_of_all H search (tree_and n ns) d)) same (Contains-append_left (own_cells H search n d) (own_of_all H search ns d) (grafted H search n d) own)))
+      (λ found. inr (subst WasFound same found))
+      (own-root n d both.0))
       (λ later.
-          ⊎_elim
-          (λ own. inl (Contains-append_right (own_cells H search n d) (own_of_all H search ns d) c own))
-          inr
-          (own-roots ns d c both.1 later))
+      ⊎_elim
+      (λ own. inl (Contains-append_right (own_cells H search n d) (own_of_all H search ns d) c own))
+      inr
+      (own-roots ns d c both.1 later))
       (Contains-cases (grafted H search n d) (list_of (grafted_all H search ns d)) c h)
 
   -- a child of an own cell is an own cell, or it was found
@@ -79,14 +79,14 @@ module _ (H : List ℕ → Hash256) (search : Tree → ℕ → Option Tree) wher
         let rest = own_of_all H search ns kd in
         own_if (is_hidden d shown) whole rest p _ own
         (λ e h.
-            let below = none_if (is_hidden d shown) n d (foreign_of_all H search ns kd) e none in
-            let up : Contains rest c ⊎ WasFound c → Contains (own_cells H search n d) c ⊎ WasFound c =
-                λ found. ⊎_elim (λ in'. inl (in_if (is_hidden d shown) whole rest c e (Contains-later whole rest c in'))) inr found
-            in
-            ⊎_elim
-            (λ same. up (own-roots ns kd c below (subst (λ x. Contains (children x) c) (sym same) child)))
-            (λ later. up (own-child_of_all ns kd p c below later child))
-            (Contains-cases whole rest p h))
+        let below = none_if (is_hidden d shown) n d (foreign_of_all H search ns kd) e none in
+        let up : Contains rest c ⊎ WasFound c → Contains (own_cells H search n d) c ⊎ WasFound c =
+        λ found. ⊎_elim (λ in'. inl (in_if (is_hidden d shown) whole rest c e (Contains-later whole rest c in'))) inr found
+        in
+        ⊎_elim
+        (λ same. up (own-roots ns kd c below (subst (λ x. Contains (children x) c) (sym same) child)))
+        (λ later. up (own-child_of_all ns kd p c below later child))
+        (Contains-cases whole rest p h))
 
     own-child_of_all : (ns : Trees) (d : ℕ) (p c : Tree) → foreign_of_all H search ns d ≡ None → Contains (own_of_all H search ns d) p → Contains (children p) c → Contains (own_of_all H search ns d) c ⊎ WasFound c
     own-child_of_all no_trees d p c none own child = absurd (Contains-nil p own)
@@ -110,11 +110,11 @@ module _ (H : List ℕ → Hash256) (search : Tree → ℕ → Option Tree) wher
         let whole = cell exotic bits (grafted_all H search ns kd) in
         own_if (is_hidden d shown) whole (own_of_all H search ns kd) s _ own
         (λ e h.
-            whole_if (is_hidden d shown) (unwrap_or (search n d) no_tree) whole s e
-            (⊎_elim
-            (λ same. subst (Contains (subtrees whole)) same (subtree-itself whole))
-            (λ later. Contains-later whole (subtrees_of_all (grafted_all H search ns kd)) s (own-subtree_of_all ns kd s later))
-            (Contains-cases whole (own_of_all H search ns kd) s h)))
+        whole_if (is_hidden d shown) (unwrap_or (search n d) no_tree) whole s e
+        (⊎_elim
+        (λ same. subst (Contains (subtrees whole)) same (subtree-itself whole))
+        (λ later. Contains-later whole (subtrees_of_all (grafted_all H search ns kd)) s (own-subtree_of_all ns kd s later))
+        (Contains-cases whole (own_of_all H search ns kd) s h)))
 
     own-subtree_of_all : (ns : Trees) (d : ℕ) (s : Tree) → Contains (own_of_all H search ns d) s → Contains (subtrees_of_all (grafted_all H search ns d)) s
     own-subtree_of_all no_trees d s own = absurd (Contains-nil s own)
@@ -137,15 +137,15 @@ module _ (H : List ℕ → Hash256) (search : Tree → ℕ → Option Tree) wher
         let rest = own_of_all H search ns kd in
         own_if (is_hidden d shown) whole rest c _ own
         (λ e h.
-            ⊎_elim
-            (λ same. inl (root_if (is_hidden d shown) (unwrap_or (search n d) no_tree) whole c e same))
-            (λ later.
-                inr
-                (⊎_elim
-                (λ child. (whole, in_if (is_hidden d shown) whole rest whole e (Contains-first whole rest), child))
-                (λ parent. (parent.0, in_if (is_hidden d shown) whole rest parent.0 e (Contains-later whole rest parent.0 parent.1), parent.2))
-                (own-parent_of_all ns kd c later)))
-            (Contains-cases whole rest c h))
+        ⊎_elim
+        (λ same. inl (root_if (is_hidden d shown) (unwrap_or (search n d) no_tree) whole c e same))
+        (λ later.
+        inr
+        (⊎_elim
+        (λ child. (whole, in_if (is_hidden d shown) whole rest whole e (Contains-first whole rest), child))
+        (λ parent. (parent.0, in_if (is_hidden d shown) whole rest parent.0 e (Contains-later whole rest parent.0 parent.1), parent.2))
+        (own-parent_of_all ns kd c later)))
+        (Contains-cases whole rest c h))
 
     own-parent_of_all : (ns : Trees) (d : ℕ) (c : Tree) → Contains (own_of_all H search ns d) c → Contains (list_of (grafted_all H search ns d)) c ⊎ ((p : Tree) × Contains (own_of_all H search ns d) p × Contains (children p) c)
     own-parent_of_all no_trees d c own = absurd (Contains-nil c own)
@@ -154,15 +154,15 @@ module _ (H : List ℕ → Hash256) (search : Tree → ℕ → Option Tree) wher
         let roots = list_of (grafted_all H search ns d) in
         ⊎_elim
         (λ here.
-            ⊎_elim
-            (λ same. inl (subst (Contains (root ∷ roots)) (sym same) (Contains-first root roots)))
-            (λ parent. inr (parent.0, Contains-append_left (own_cells H search n d) (own_of_all H search ns d) parent.0 parent.1, parent.2))
-            (own-parent n d c here))
+        ⊎_elim
+        (λ same. inl (subst (Contains (root ∷ roots)) (sym same) (Contains-first root roots)))
+        (λ parent. inr (parent.0, Contains-append_left (own_cells H search n d) (own_of_all H search ns d) parent.0 parent.1, parent.2))
+        (own-parent n d c here))
         (λ later.
-            ⊎_elim
-            (λ child. inl (Contains-later root roots c child))
-            (λ parent. inr (parent.0, Contains-append_right (own_cells H search n d) (own_of_all H search ns d) parent.0 parent.1, parent.2))
-            (own-parent_of_all ns d c later))
+        ⊎_elim
+        (λ child. inl (Contains-later root roots c child))
+        (λ parent. inr (parent.0, Contains-append_right (own_cells H search n d) (own_of_all H search ns d) parent.0 parent.1, parent.2))
+        (own-parent_of_all ns d c later))
         (Contains-append_cases (own_cells H search n d) (own_of_all H search ns d) c own)
 
 -- ---- the prepared value of an update
@@ -216,10 +216,10 @@ module _ (H : List ℕ → Hash256) (u t : Tree) (good_u : IsWellFormed H u) (go
         IsValid-listed H g listed well-listed new.well new.plain distinct.ordered
         (λ a b in-a in-b rep. own_by_rep a b (distinct.within a in-a) (distinct.within b in-b) rep)
         (λ c h.
-            ⊎_elim
-            (λ same. inl (same ∙ graft))
-            (λ parent. inr (parent.0, own-listed parent.0 parent.1, parent.2))
-            (own-parent H search (half_of u 1) 0 c (distinct.within c h)))
+        ⊎_elim
+        (λ same. inl (same ∙ graft))
+        (λ parent. inr (parent.0, own-listed parent.0 parent.1, parent.2))
+        (own-parent H search (half_of u 1) 0 c (distinct.within c h)))
 
     -- each child is listed behind its cell, or it is a cell of the old tree
     behind : AreBehind H (subtrees t) listed
@@ -228,13 +228,13 @@ module _ (H : List ℕ → Hash256) (u t : Tree) (good_u : IsWellFormed H u) (go
         let in-listed = Contains-get_or listed k no_tree in' in
         ⊎_elim
         (λ own_child.
-            let place = own-listed c own_child in
-            let j = place.0 in
-            let at : get_or listed j no_tree ≡ c = get_or_default listed j no_tree c place.1 ∙ place.2 in
-            let lower = height_of-child H parent c (well-listed parent in-listed) child in
-            let less = subst (λ x. export_cmp H parent x ≡ Less) (sym at) (export_cmp-higher H parent c lower) in
-            let later = before-rising (export_cmp H) (export_cmp-total H) listed no_tree distinct.ordered k j in' place.1 less in
-            Contains-append_left (drop (suc k) listed) (subtrees t) c (subst (Contains (drop (suc k) listed)) at (Contains-dropped listed (suc k) j no_tree later place.1)))
+        let place = own-listed c own_child in
+        let j = place.0 in
+        let at : get_or listed j no_tree ≡ c = get_or_default listed j no_tree c place.1 ∙ place.2 in
+        let lower = height_of-child H parent c (well-listed parent in-listed) child in
+        let less = subst (λ x. export_cmp H parent x ≡ Less) (sym at) (export_cmp-higher H parent c lower) in
+        let later = before-rising (export_cmp H) (export_cmp-total H) listed no_tree distinct.ordered k j in' place.1 less in
+        Contains-append_left (drop (suc k) listed) (subtrees t) c (subst (Contains (drop (suc k) listed)) at (Contains-dropped listed (suc k) j no_tree later place.1)))
         (λ found. Contains-append_right (drop (suc k) listed) (subtrees t) c (found-old c found))
         (own-child H search (half_of u 1) 0 parent c none (distinct.within parent in-listed) child)
 

@@ -1,20 +1,20 @@
 -- Laws of what an old half shows: it shows the tree exactly where no cell of it disagrees, and then the cells that it
 -- meets are subtrees.
-use Rattle.std.proofs.Common.{◌≡◌, ℕ, zero, suc, ◌+◌, ◌≤◌, ◌<◌, List, [], ◌∷◌, ◌++◌, length, Contains, Bool, true, false, true≢false, ◌&&◌, IsTrue, nat_eq, if◌then◌else◌, Option, Some, None, refl, ap, ap₂, sym, ◌∙◌, subst, inl, inr, ⊎_elim, ◌⊎◌, arith, eqb-true, eq-eqb, eq-or-lt_of_le}
+use Rattle.std.proofs.Common.{◌≡◌, ℕ, zero, suc, ◌≤◌, List, [], ◌∷◌, length, Contains, Bool, true, false, true≢false, IsTrue, nat_eq, if◌then◌else◌, Option, Some, None, refl, ap, ap₂, sym, ◌∙◌, subst, ⊎_elim, arith, eqb-true, eq-eqb, eq-or-lt_of_le}
 use Rattle.std.specs.Option.{option_or}
 use Rattle.std.specs.Bool.{Decides}
-use Rattle.std.specs.Cmp.Lexicographic.{pointwise, as_long}
+use Rattle.std.specs.Cmp.Lexicographic.{as_long}
 use Rattle.std.proofs.lemmas.Bool.{and_parts, and_from}
 use Rattle.std.proofs.lemmas.List.{length-map}
-use Rattle.std.proofs.lemmas.List.Elements.{Contains-append_cases, Contains-append_left, Contains-append_right}
+use Rattle.std.proofs.lemmas.List.Elements.{Contains-append_cases}
 use Rattle.cd_base.specs.declared.hash.Hash256.{Hash256}
 use Rattle.cd_cell.specs.declared.info.ChildInfo.{ChildInfo}
 use Rattle.cd_cell.specs.Masks.{lowest_bits}
 use Rattle.cd_cell.specs.Infos.{info_hash, info_depth}
 use Rattle.cd_cell.specs.FaceView.{FaceView}
 use Rattle.cd_cell.specs.Levels.{kid_level}
-use Rattle.cd_cell.specs.Tree.{Tree, cell, Trees, no_trees, tree_and, list_of, children, subtrees, info_of, infos_of, face_of, hash_at}
-use Rattle.cd_cell.specs.Equality.{same_hash, same_hash-Decides}
+use Rattle.cd_cell.specs.Tree.{Tree, cell, Trees, no_trees, tree_and, list_of, children, subtrees, info_of, face_of}
+use Rattle.cd_cell.specs.Equality.{same_hash-Decides}
 use Rattle.cd_cell.specs.Updates.{same_at, same_upto, matches, Matches, agrees, is_hidden, Unless, Misfit, Shows, ShowAll, known_cells, known_of_all, misfit, misfit_of_all}
 use Rattle.cd_cell.proofs.Subtrees.{Contains-first, Contains-later, Contains-cases, Contains-nil, infos_of-list_of, kids-face_of, subtree-itself, subtrees-child}
 
@@ -42,20 +42,19 @@ same_upto-from zero a b each = each 0 (omega arith)
 same_upto-from (suc d) a b each = and_from _ _ (same_upto-from d a b (λ l low. each l (omega arith))) (each (suc d) (omega arith))
 
 pub matches-Decides : (d : ℕ) (a b : ChildInfo) → Decides (matches d a b) (Matches d a b)
-matches-Decides d a b =
-    (
-      λ e.
-          let both = and_parts (same_upto d a b) (nat_eq (lowest_bits a.mask d) (lowest_bits b.mask d)) e in
-          record {
-            masks = eqb-true _ _ both.1;
-            hashes = λ l low. (same_at-Decides l a b (same_upto-each d a b both.0 l low)).0;
-            depths = λ l low. (same_at-Decides l a b (same_upto-each d a b both.0 l low)).1;
-          },
-      λ m.
-          and_from _ _
-          (same_upto-from d a b (λ l low. same_at-from l a b (m.hashes l low) (m.depths l low)))
-          (eq-eqb _ _ m.masks),
-    )
+matches-Decides d a b = (
+  λ e.
+      let both = and_parts (same_upto d a b) (nat_eq (lowest_bits a.mask d) (lowest_bits b.mask d)) e in
+      record {
+        masks = eqb-true _ _ both.1;
+        hashes = λ l low. (same_at-Decides l a b (same_upto-each d a b both.0 l low)).0;
+        depths = λ l low. (same_at-Decides l a b (same_upto-each d a b both.0 l low)).1;
+      },
+  λ m.
+      and_from _ _
+      (same_upto-from d a b (λ l low. same_at-from l a b (m.hashes l low) (m.depths l low)))
+      (eq-eqb _ _ m.masks),
+)
 
 -- ---- the old half
 
@@ -125,7 +124,7 @@ module _ (H : List ℕ → Hash256) where
         ⊎_elim
         (λ same. subst (Contains (subtrees t)) same (subtree-itself t))
         (λ below. known-step (is_hidden d shown) (known_of_all H os (children t) (kid_level shown d)) s (Contains (subtrees t) s) below
-            (λ in'. let found = subtree-known_of_all os (children t) (kid_level shown d) s in' in subtrees-child t found.0 s found.1 found.2))
+        (λ in'. let found = subtree-known_of_all os (children t) (kid_level shown d) s in' in subtrees-child t found.0 s found.1 found.2))
         (Contains-cases t (if is_hidden d shown then [] else known_of_all H os (children t) (kid_level shown d)) s h)
 
     subtree-known_of_all : (os : Trees) (ts : List Tree) (d : ℕ) (s : Tree) → Contains (known_of_all H os ts d) s → (t : Tree) × Contains ts t × Contains (subtrees t) s

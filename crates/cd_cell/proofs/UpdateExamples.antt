@@ -1,10 +1,10 @@
 -- Small updates, computed with a weak hash: 31 zero bytes and the sum of the bytes modulo 256.
-use Rattle.std.proofs.Common.{◌≡◌, ℕ, ◌%◌, Bool, true, false, List, [], ◌∷◌, ◌++◌, replicate, sum, flat_map, Result, Ok, Err, refl}
+use Rattle.std.proofs.Common.{◌≡◌, ℕ, ◌%◌, Bool, true, false, List, [], ◌∷◌, ◌++◌, replicate, sum, flat_map, Ok, Err, refl}
 use Rattle.cd_base.specs.declared.hash.Hash256.{Hash256}
 use Rattle.cd_cell.specs.BitText.{packed, bits_of_byte}
 use Rattle.cd_cell.specs.Levels.{plain_hash, plain_depth}
-use Rattle.cd_cell.specs.Tree.{Tree, cell, Trees, no_trees, tree_and, face_of, rep_of, mask_of}
-use Rattle.cd_cell.specs.Updates.{same_upto, applied, known_of, new_cells, UpdateRefusal, foreign, old_half, old_hash}
+use Rattle.cd_cell.specs.Tree.{Tree, cell, Trees, no_trees, tree_and, face_of, rep_of}
+use Rattle.cd_cell.specs.Updates.{same_upto, applied, new_cells, foreign, old_half, old_hash}
 
 abbrev weak_text : ℕ → List ℕ
 weak_text n = replicate 31 0 ++ n ∷ []

@@ -1,7 +1,7 @@
 -- Merkle updates: the old half shows a part of an old tree, and the new half is grafted onto what it shows (TVM
 -- documentation, "Exotic cells"). At Merkle depth d, the number of Merkle cells above inside the half and at most 3,
 -- cells are compared by their levels up to d.
-use Rattle.std.specs.Prelude.{◌≡◌, ℕ, zero, suc, ◌+◌, ◌/◌, ◌^◌, ◌≤◌, IsTrue, Bool, true, false, not, ◌&&◌, nat_eq, ◌==◌, if◌then◌else◌, List, [], ◌∷◌, ◌++◌, find, slice_index_or, Option, Some, None, unwrap_or, Result, Ok, Err}
+use Rattle.std.specs.Prelude.{◌≡◌, ℕ, zero, suc, ◌+◌, ◌/◌, ◌^◌, ◌≤◌, IsTrue, Bool, true, false, ◌&&◌, nat_eq, ◌==◌, if◌then◌else◌, List, [], ◌∷◌, ◌++◌, find, slice_index_or, Option, Some, None, unwrap_or, Result, Ok, Err}
 use Rattle.std.specs.Bool.{beq}
 use Rattle.std.specs.Option.{option_or, option_map}
 use Rattle.std.specs.Cmp.Lexicographic.{pointwise}
@@ -136,6 +136,18 @@ module _ (H : List ℕ → Hash256) where
     pub wanted_of_all : Trees → ℕ → List Hash256
     wanted_of_all no_trees d = []
     wanted_of_all (tree_and o os) d = wanted o d ++ wanted_of_all os d
+
+  -- the cells of the tree that it shows, in the same order
+  abbrev mutual
+    pub shown_cells : Tree → Tree → ℕ → List Tree
+    shown_cells (cell exotic bits os) t d =
+        let shown = face_of H (cell exotic bits os) in
+        if is_hidden d shown then [] else t ∷ shown_of_all os (children t) (kid_level shown d)
+
+    pub shown_of_all : Trees → List Tree → ℕ → List Tree
+    shown_of_all no_trees ts d = []
+    shown_of_all (tree_and o os) [] d = []
+    shown_of_all (tree_and o os) (t ∷ ts) d = shown_cells o t d ++ shown_of_all os ts d
 
   -- ---- the new half
 
