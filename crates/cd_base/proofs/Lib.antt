@@ -1,1 +1,3 @@
+pub mod ChecksumLaws
+pub mod NumberLaws
 pub mod ToldLaws

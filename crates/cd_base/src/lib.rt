@@ -2,10 +2,14 @@
 #![tactic(auto)]
 
 mod answers;
+mod byte_reader;
+mod byte_writer;
+mod checksum;
 mod counts;
 mod hash;
 mod memory_sink;
 mod memory_source;
+mod numbers;
 mod read_all_fault;
 mod sink;
 mod source;
@@ -13,10 +17,14 @@ mod std_adapters;
 mod whole;
 
 pub use answers::{Failed, Memory};
+pub use byte_reader::ByteReader;
+pub use byte_writer::ByteWriter;
+pub use checksum::{Crc, crc32c};
 pub use counts::raised;
 pub use hash::Hash256;
 pub use memory_sink::{MemorySink, SteadySink};
 pub use memory_source::{MemorySource, SteadySource};
+pub use numbers::{from_be, from_le};
 pub use read_all_fault::ReadAllFault;
 pub use sink::Sink;
 pub use source::Source;

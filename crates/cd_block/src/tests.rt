@@ -15,6 +15,10 @@ const DESCRIPTION: [u8; 38] = [
     0xcf, 0xc7, 0, 0, 0,
 ];
 
+/// The name of that zero state, of the masterchain.
+const NAME: &str =
+    "(-1,8000000000000000,0):96a296d224f285c67bee93c30f8a309157f0daa35dc5b87e410b78630a09cfc7:0000000000000000000000000000000000000000000000000000000000000000";
+
 const ZEROS: Hash256 = Hash256([0; 32]);
 
 const MASTER: ShardId = ShardId {
@@ -34,10 +38,26 @@ fn zero_state() -> BlockId {
 #[test]
 fn a_name_is_printed(rt: HostRuntime) -> Result<(), Fail> {
     let text = print_id(rt.alloc(), &zero_state())?;
-    let spelling =
-        "(-1,8000000000000000,0):96a296d224f285c67bee93c30f8a309157f0daa35dc5b87e410b78630a09cfc7:0000000000000000000000000000000000000000000000000000000000000000";
-    assert_eq!(rt; text.as_str(), spelling);
+    assert_eq!(rt; text.as_str(), NAME);
     Ok(())
+}
+
+#[test]
+fn a_spelling_is_read(rt: HostRuntime) {
+    assert_eq!(rt; parse_id(NAME), Some(zero_state()));
+}
+
+#[test]
+fn what_is_no_spelling_is_refused(rt: HostRuntime) {
+    for text in [
+        "(-0,8000000000000000,0):96a296d224f285c67bee93c30f8a309157f0daa35dc5b87e410b78630a09cfc7:0000000000000000000000000000000000000000000000000000000000000000",
+        "(0,8000000000000000,00):96a296d224f285c67bee93c30f8a309157f0daa35dc5b87e410b78630a09cfc7:0000000000000000000000000000000000000000000000000000000000000000",
+        "(0,800000000000000,0):96a296d224f285c67bee93c30f8a309157f0daa35dc5b87e410b78630a09cfc7:0000000000000000000000000000000000000000000000000000000000000000",
+        "(0,8000000000000000,0):96A296D224F285C67BEE93C30F8A309157F0DAA35DC5B87E410B78630A09CFC7:0000000000000000000000000000000000000000000000000000000000000000",
+        "",
+    ] {
+        assert_eq!(rt; parse_id(text), None);
+    }
 }
 
 #[test]

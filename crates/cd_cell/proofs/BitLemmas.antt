@@ -1,6 +1,6 @@
 -- Bits to bytes and back.
-use Rattle.std.proofs.Common.{◌≡◌, ℕ, zero, suc, ◌+◌, ◌-◌, ◌*◌, ◌/◌, ◌%◌, ◌^◌, ◌<◌, ◌≤◌, Bool, true, false, List, [], ◌∷◌, ◌++◌, length, take, drop, get_or, replicate, refl, sym, ap, ap₂, ◌∙◌, zero-add, arith, eqb, eq-eqb, ◌≢◌, ◌||◌, ⊎_elim, if◌then◌else◌, ◌==◌, nat_eq, nat_lt, append_assoc, slice_get, slice_index, bit_and, bit_or, set, Some, length-append}
-use Rattle.std.proofs.lemmas.Bool.{ne_eqb, eqb-true, ltb-true, cond-true, cond-false, agree_below, agree_below_at, or_cases}
+use Rattle.std.proofs.Common.{◌≡◌, ℕ, zero, suc, ◌+◌, ◌-◌, ◌*◌, ◌/◌, ◌%◌, ◌^◌, ◌<◌, ◌≤◌, Bool, true, false, List, [], ◌∷◌, ◌++◌, length, take, drop, get_or, replicate, refl, sym, ap, ap₂, ◌∙◌, zero-add, arith, eqb, eq-eqb, ◌≢◌, not, ◌||◌, ⊎_elim, if◌then◌else◌, ◌==◌, nat_eq, nat_lt, nat_le, append_assoc, length-drop, slice_get, slice_index, bit_and, bit_or, set, Some, length-append}
+use Rattle.std.proofs.lemmas.Bool.{ne_eqb, eqb-true, leb-true, eqb-false, not-true, ltb-true, cond-true, cond-false, agree_below, agree_below_at, or_cases}
 use Rattle.std.specs.Int.{w8, trailing_zeros}
 use Rattle.std.specs.Int.Count.{count_trailing_zeros}
 use Rattle.std.specs.List.{flat_map}
@@ -254,18 +254,18 @@ trailing_zeros-few byte small some =
     ⊎_elim (λ h. absurd (some (eqb-true _ _ h))) (λ h. ltb-true _ _ h) (or_cases _ _ test)
 
 -- bytes whose last one was completed are the data of the bits before the lowest one that is set there
-module _ (bytes : List ℕ) (last : ℕ) (small : (i : ℕ) → get_or bytes i 0 < 256) (some : 0 < length bytes) (is : last ≡ get_or bytes (length bytes - 1) 0) (tagged : last % 128 ≢ 0) where
-  byte : last < 256
-  byte = rw is (small (length bytes - 1))
+module _ (bytes : List ℕ) (last : ℕ) (small : (i : ℕ) → get_or bytes i 0 < 256) (some : 0 < length bytes) (is : last ≡ get_or bytes (length bytes - 1) 0) (some_tag : last % 128 ≢ 0) where
+  last_small : last < 256
+  last_small = rw is (small (length bytes - 1))
 
   pub kept-few : trailing_zeros w8 last < 7
-  kept-few = trailing_zeros-few last byte tagged
+  kept-few = trailing_zeros-few last last_small some_tag
 
   pub data_of-completed : data_of (first_bits (8 * length bytes - 1 - trailing_zeros w8 last) bytes) ≡ bytes
   data_of-completed =
       let kept = 7 - trailing_zeros w8 last in
       let place : 8 * length bytes - 1 - trailing_zeros w8 last ≡ 8 * (length bytes - 1) + kept = omega (arith, kept-few) in
-      let one : last_byte kept last ≡ last ∷ [] = cond-false _ _ _ (ne_eqb kept 0 (λ h. omega (arith, kept-few))) ∙ ap (λ b. b ∷ []) (cut_byte-trailing_zeros last byte tagged) in
+      let one : last_byte kept last ≡ last ∷ [] = cond-false _ _ _ (ne_eqb kept 0 (λ h. omega (arith, kept-few))) ∙ ap (λ b. b ∷ []) (cut_byte-trailing_zeros last last_small some_tag) in
       let end : length bytes - 1 + 1 ≡ length bytes = omega arith in
       ap (λ n. data_of (first_bits n bytes)) place
       ∙ data_of-first_bits (length bytes - 1) kept bytes small (omega (arith, kept-few)) (omega (arith, kept-few))
@@ -283,3 +283,86 @@ pub bytes_eq-data_of : (a b : List Bool) → length a ≡ length b → bytes_eq 
 bytes_eq-data_of a b counted =
     let bytes = bytes_decides (data_of a) (data_of b) in
     same_from_decides _ (same_bits a b) (λ h. same_from_data_of a b counted (bytes.0 h), λ h. bytes.1 (ap data_of h)) (same_bits-Decides a b)
+
+-- ---- bits by their data
+
+-- the bit behind the last one of a byte that was completed
+tagged : (bs : List Bool) → length bs < 8 → byte_of_bits bs % 2 ^ (8 - length bs) ≡ 2 ^ (7 - length bs)
+tagged [] few = refl
+tagged (a ∷ []) few = omega arith
+tagged (a ∷ b ∷ []) few = omega arith
+tagged (a ∷ b ∷ c ∷ []) few = omega arith
+tagged (a ∷ b ∷ c ∷ d ∷ []) few = omega arith
+tagged (a ∷ b ∷ c ∷ d ∷ e ∷ []) few = omega arith
+tagged (a ∷ b ∷ c ∷ d ∷ e ∷ f ∷ []) few = omega arith
+tagged (a ∷ b ∷ c ∷ d ∷ e ∷ f ∷ g ∷ []) few = omega arith
+tagged (a ∷ b ∷ c ∷ d ∷ e ∷ f ∷ g ∷ h ∷ bs) few = absurd (omega arith)
+
+small_byte : (bs : List Bool) → length bs < 8 → byte_of_bits bs < 256
+small_byte [] few = omega arith
+small_byte (a ∷ []) few = omega (arith, bit_value-le a)
+small_byte (a ∷ b ∷ []) few = omega (arith, bit_value-le a, bit_value-le b)
+small_byte (a ∷ b ∷ c ∷ []) few = omega (arith, bit_value-le a, bit_value-le b, bit_value-le c)
+small_byte (a ∷ b ∷ c ∷ d ∷ []) few = omega (arith, bit_value-le a, bit_value-le b, bit_value-le c, bit_value-le d)
+small_byte (a ∷ b ∷ c ∷ d ∷ e ∷ []) few = omega (arith, bit_value-le a, bit_value-le b, bit_value-le c, bit_value-le d, bit_value-le e)
+small_byte (a ∷ b ∷ c ∷ d ∷ e ∷ f ∷ []) few = omega (arith, bit_value-le a, bit_value-le b, bit_value-le c, bit_value-le d, bit_value-le e, bit_value-le f)
+small_byte (a ∷ b ∷ c ∷ d ∷ e ∷ f ∷ g ∷ []) few = omega (arith, bit_value-le a, bit_value-le b, bit_value-le c, bit_value-le d, bit_value-le e, bit_value-le f, bit_value-le g)
+small_byte (a ∷ b ∷ c ∷ d ∷ e ∷ f ∷ g ∷ h ∷ bs) few = absurd (omega arith)
+
+-- the bits before the lowest one that is set in a byte that was completed
+kept_of_byte : (bs : List Bool) → length bs < 8 → 7 - trailing_zeros w8 (byte_of_bits bs) ≡ length bs
+unfolding count_trailing_zeros
+kept_of_byte bs few =
+    let test = λ (k b : ℕ). not (eqb (b % 2 ^ (8 - k)) (2 ^ (7 - k))) || eqb (7 - trailing_zeros w8 b) k in
+    let tried : agree_below (λ k. agree_below (test k) (λ _. true) 256) (λ _. true) 8 ≡ true = refl in
+    let found = agree_below_at (test (length bs)) (λ _. true) 256 (byte_of_bits bs) (agree_below_at (λ k. agree_below (test k) (λ _. true) 256) (λ _. true) 8 (length bs) tried few) (small_byte bs few) in
+    ⊎_elim (λ no. absurd (eqb-false _ _ (not-true _ no) (tagged bs few))) (λ yes. eqb-true _ _ yes) (or_cases _ _ found)
+
+no_tag : (byte : ℕ) → byte < 256 → byte % 128 ≡ 0 → 7 ≤ trailing_zeros w8 byte
+unfolding count_trailing_zeros
+no_tag byte small none =
+    let found = agree_below_at (λ b. not (eqb (b % 128) 0) || nat_le 7 (trailing_zeros w8 b)) (λ _. true) 256 byte refl small in
+    ⊎_elim (λ no. absurd (eqb-false _ _ (not-true _ no) none)) (λ yes. leb-true _ _ yes) (or_cases _ _ found)
+
+-- a last byte that was completed, after the full bytes
+module _ (bs : List Bool) (cut : length bs % 8 ≢ 0) where
+  ends : length (data_of bs) - 1 ≡ length bs / 8
+  ends = omega (arith, length-data_of bs, cut)
+
+  rest : length (drop (8 * (length bs / 8)) bs) ≡ length bs % 8
+  rest = simp length-drop (omega arith)
+
+  last_is : get_or (data_of bs) (length (data_of bs) - 1) 0 ≡ byte_of_bits (drop (8 * (length bs / 8)) bs)
+  last_is =
+      rw ends
+      (get_or-data_of (length bs / 8) bs (omega (arith, cut)) ∙ ap (λ (xs : List Bool). byte_of_bits xs) (take_all 8 (drop (8 * (length bs / 8)) bs) (omega (arith, rest))))
+
+  kept_is : 7 - trailing_zeros w8 (get_or (data_of bs) (length (data_of bs) - 1) 0) ≡ length bs % 8
+  kept_is = rw last_is (kept_of_byte (drop (8 * (length bs / 8)) bs) (omega (arith, rest)) ∙ rest)
+
+  -- the code counts the bits
+  pub length-completed : 8 * length (data_of bs) - 1 - trailing_zeros w8 (get_or (data_of bs) (length (data_of bs) - 1) 0) ≡ length bs
+  length-completed = omega (arith, kept_is, length-data_of bs, cut)
+
+  pub completed_is_tagged : get_or (data_of bs) (length (data_of bs) - 1) 0 % 128 ≢ 0
+  completed_is_tagged = λ h.
+      let small : get_or (data_of bs) (length (data_of bs) - 1) 0 < 256 = rw last_is (small_byte (drop (8 * (length bs / 8)) bs) (omega (arith, rest))) in
+      omega (arith, kept_is, no_tag _ small h, cut)
+
+-- the bits of these data are found, whole or not
+pub bits_of_whole_data : (bs : List Bool) (bytes : List ℕ) → length bs ≤ 1023 → data_of bs ≡ bytes → length bs % 8 ≡ 0 → (length bytes ≤ 127) × (first_bits (8 * length bytes) bytes ≡ bs)
+bits_of_whole_data bs bytes few is whole =
+    let counted : 8 * length bytes ≡ length bs = omega (arith, ap length is, length-data_of bs) in
+    (omega (arith, counted), rw (counted, ← is, ← append-nil (data_of bs)) (first_bits-data_of bs []))
+
+pub bits_of_cut_data : (bs : List Bool) (bytes : List ℕ) (last : ℕ) → length bs ≤ 1023 → data_of bs ≡ bytes → length bs % 8 ≢ 0 → last ≡ get_or bytes (length bytes - 1) 0 →
+    record { short : length bytes ≤ 128; tagged : last % 128 ≢ 0; same : first_bits (8 * length bytes - 1 - trailing_zeros w8 last) bytes ≡ bs }
+bits_of_cut_data bs bytes last few is cut at_end =
+    let end : last ≡ get_or (data_of bs) (length (data_of bs) - 1) 0 = at_end ∙ ap (λ xs. get_or xs (length xs - 1) 0) (sym is) in
+    let counted : 8 * length bytes - 1 - trailing_zeros w8 last ≡ length bs =
+    ap (λ xs. 8 * length xs - 1 - trailing_zeros w8 last) (sym is) ∙ ap (λ n. 8 * length (data_of bs) - 1 - trailing_zeros w8 n) end ∙ length-completed bs cut in
+    record {
+      short = omega (arith, ap length is, length-data_of bs);
+      tagged = λ h. completed_is_tagged bs cut (ap (λ n. n % 128) (sym end) ∙ h);
+      same = rw (counted, ← is, ← append-nil (data_of bs)) (first_bits-data_of bs []);
+    }

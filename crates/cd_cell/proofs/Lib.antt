@@ -3,11 +3,13 @@ pub mod Subtrees
 pub mod BitLemmas
 pub mod MaskLemmas
 pub mod FaceLemmas
+pub mod FitLemmas
 pub mod Heights
 pub mod LevelRecursions
 pub mod Distinct
 pub mod ExportOrder
 pub mod BagLaws
+pub mod WellFormedCells
 pub mod ListedTrees
 pub mod UpdateExamples
 pub mod Showing

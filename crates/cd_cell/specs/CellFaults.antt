@@ -1,7 +1,6 @@
 -- What is wrong with a face: the first fault, in the order of the table of faults.
 use Rattle.std.specs.Prelude.{ℕ, ◌+◌, ◌*◌, Bool, not, ◌&&◌, ◌||◌, [], length, slice_index, slice_index_or, ◌==◌, nat_lt, nat_le, max, if◌then◌else◌, Option, Some, None}
 use Rattle.std.specs.Option.{option_or}
-use Rattle.std.specs.Str.{bytes_eq}
 use Rattle.cd_cell.specs.declared.info.ChildInfo.{ChildInfo}
 use Rattle.cd_cell.specs.declared.kind.Kind.{Kind}
 use Rattle.cd_cell.specs.declared.kind.Kind.TheVariants.{Ordinary, Pruned, Library, Proof, Update}
@@ -11,6 +10,7 @@ use Rattle.cd_cell.specs.Masks.{bit_count}
 use Rattle.cd_cell.specs.BitText.{data_of}
 use Rattle.cd_cell.specs.Infos.{info_hash, info_depth}
 use Rattle.cd_cell.specs.FaceView.{FaceView}
+use Rattle.cd_cell.specs.Equality.{same_hash}
 use Rattle.cd_cell.specs.Levels.{exotic_kind, stated_hash, stated_depth, depth_of_face}
 
 -- what shows nothing, in the place of a child that isn't there
@@ -48,11 +48,11 @@ abbrev pub unless : Bool → CellFault → Option CellFault
 unless holds fault = if holds then None else Some fault
 
 -- a Merkle cell states its child's hash at level 0, and its depth
+abbrev pub states_hash : FaceView → ℕ → Bool
+states_hash f place = same_hash (stated_hash f (1 + 32 * place)) (info_hash (kid_at f place) 0)
+
 abbrev pub hash_fault : FaceView → ℕ → Option CellFault
-hash_fault f place =
-    let stated = stated_hash f (1 + 32 * place) in
-    let real = info_hash (kid_at f place) 0 in
-    unless (bytes_eq stated.0 real.0) (MerkleHash place)
+hash_fault f place = unless (states_hash f place) (MerkleHash place)
 
 abbrev pub stated_depth_of_kid : FaceView → ℕ → ℕ
 stated_depth_of_kid f place = stated_depth f (1 + 32 * length f.kids + 2 * place)
@@ -70,12 +70,18 @@ merkle_fault Proof f = option_or (hash_fault f 0) (depth_fault f 0)
 merkle_fault Update f = option_or (option_or (hash_fault f 0) (hash_fault f 1)) (option_or (depth_fault f 0) (depth_fault f 1))
 merkle_fault _ f = None
 
+abbrev pub refs_fault : ℕ → FaceView → Option CellFault
+refs_fault due f = unless (length f.kids == due) (Refs (length f.kids))
+
+abbrev pub bits_fault : ℕ → FaceView → Option CellFault
+bits_fault due f = unless (length f.bits == due) (Length (length f.bits))
+
 -- the faults of an exotic cell of a known kind, but for its depth
 abbrev pub exotic_fault : Kind → FaceView → Option CellFault
 exotic_fault kind f =
-    option_or (unless (length f.kids == refs_of_kind kind) (Refs (length f.kids)))
+    option_or (refs_fault (refs_of_kind kind) f)
     (option_or (mask_fault kind f)
-    (option_or (unless (length f.bits == bits_of_kind kind (second_byte f)) (Length (length f.bits)))
+    (option_or (bits_fault (bits_of_kind kind (second_byte f)) f)
     (merkle_fault kind f)))
 
 abbrev pub fault_of_kind : Option Kind → FaceView → Option CellFault

@@ -68,10 +68,13 @@ pruned_depth f l =
     let count = bit_count (mask_of_face f) in
     if nat_lt (pruned_place f l) count then stated_depth f (2 + 32 * count + 2 * pruned_place f l) else 0
 
--- the depth of a cell that is no pruned branch; at a level that isn't significant it is that of the level below
+-- the depth of a cell at a level, where it is no pruned branch; at a level that isn't significant it is that of the level below
+abbrev pub next_depth : FaceView → ℕ → ℕ → ℕ
+next_depth f l below = if is_significant (mask_of_face f) l then depth_above (kid_level f l) f.kids else below
+
 unfoldable pub plain_depth : FaceView → ℕ → ℕ
 plain_depth f zero = depth_above (kid_level f 0) f.kids
-plain_depth f (suc l) = if is_significant (mask_of_face f) (suc l) then depth_above (kid_level f (suc l)) f.kids else plain_depth f l
+plain_depth f (suc l) = next_depth f (suc l) (plain_depth f l)
 
 abbrev pub depth_of_face : FaceView → ℕ → ℕ
 depth_of_face f l = if is_pruned (kind_of_face f) then pruned_depth f l else plain_depth f l
@@ -84,12 +87,18 @@ descriptor1 f mask = length f.kids + (if f.exotic then 8 else 0) + 32 * mask
 abbrev pub descriptor2 : List Bool → ℕ
 descriptor2 bs = length bs / 8 + (length bs + 7) / 8
 
+-- the depths of some cells at a level, in two bytes each
+abbrev pub depths_text : ℕ → List ChildInfo → List ℕ
+depths_text level ks = flat_map (λ k. to_be_bytes w16 (info_depth k level)) ks
+
+-- their hashes at a level
+abbrev pub hashes_text : ℕ → List ChildInfo → List ℕ
+hashes_text level ks = flat_map (λ k. let hash = info_hash k level in hash.0) ks
+
 -- what is hashed: the descriptors, the contents, the children's depths and their hashes at a level
 abbrev pub representation : FaceView → ℕ → List ℕ → ℕ → List ℕ
 representation f mask contents level =
-    descriptor1 f mask ∷ descriptor2 f.bits ∷ contents
-    ++ flat_map (λ k. to_be_bytes w16 (info_depth k level)) f.kids
-    ++ flat_map (λ k. let hash = info_hash k level in hash.0) f.kids
+    descriptor1 f mask ∷ descriptor2 f.bits ∷ contents ++ depths_text level f.kids ++ hashes_text level f.kids
 
 module _ (H : List ℕ → Hash256) where
   abbrev pub pruned_hash : FaceView → ℕ → Hash256
@@ -98,13 +107,14 @@ module _ (H : List ℕ → Hash256) where
       then stated_hash f (2 + 32 * pruned_place f l)
       else H (representation f (mask_of_face f) (data_of f.bits) l)
 
-  -- the hash of a cell that is no pruned branch; above level 0 the hash below stands in the place of the data
+  -- the hash of a cell at a level, where it is no pruned branch; above level 0 the hash below stands in the place of the data
+  abbrev pub next_hash : FaceView → ℕ → Hash256 → Hash256
+  next_hash f l below =
+      if is_significant (mask_of_face f) l then H (representation f (lowest_bits (mask_of_face f) l) below.0 (kid_level f l)) else below
+
   unfoldable pub plain_hash : FaceView → ℕ → Hash256
   plain_hash f zero = H (representation f 0 (data_of f.bits) (kid_level f 0))
-  plain_hash f (suc l) =
-      if is_significant (mask_of_face f) (suc l)
-      then H (representation f (lowest_bits (mask_of_face f) (suc l)) (let below = plain_hash f l in below.0) (kid_level f (suc l)))
-      else plain_hash f l
+  plain_hash f (suc l) = next_hash f (suc l) (plain_hash f l)
 
   abbrev pub hash_of_face : FaceView → ℕ → Hash256
   hash_of_face f l = if is_pruned (kind_of_face f) then pruned_hash f l else plain_hash f l

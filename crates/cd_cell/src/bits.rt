@@ -1,5 +1,5 @@
-ghost use Rattle.std.specs.Prelude.{◌≡◌, ◌≢◌, ◌↔◌, ℕ, ◌+◌, ◌*◌, ◌%◌, ◌≤◌, ◌<◌, ◌==◌, List, length, take, drop, slice_get, slice_index, IsSome, IfSome};
-ghost use Rattle.cd_cell.specs.BitText.{data_of, first_bits, byte_of_bits, bits_of_byte, filled, IsBitData};
+ghost use Rattle.std.specs.Prelude.{◌≡◌, ◌≢◌, ◌↔◌, ℕ, ◌+◌, ◌*◌, ◌%◌, ◌≤◌, ◌<◌, ◌==◌, Bool, List, Some, length, take, drop, slice_get, slice_index, IsSome, IfSome};
+ghost use Rattle.cd_cell.specs.BitText.{data_of, byte_count, first_bits, byte_of_bits, bits_of_byte, filled, IsBitData};
 
 use crate::put::put;
 use std::fmt;
@@ -51,6 +51,7 @@ impl Bits {
         ensures found { IsSome result ↔ IsBitData whole bytes.now }
         ensures value { IfSome result (λ bits. data_of bits ≡ bytes.now) }
         ensures whole { IfSome result (λ bits. (length bits % 8 == 0) ≡ whole) }
+        ensures only { (bits : List Bool) → length bits ≤ 1023 → data_of bits ≡ bytes.now → (length bits % 8 == 0) ≡ whole → result ≡ Some bits }
     {
         if whole {
             if bytes.len() > 127 {
@@ -105,6 +106,7 @@ impl Bits {
     /// "Standard cell representation"): at most 128 bytes.
     pub fn data(&self) -> &[u8]
         ensures value { result.now ≡ data_of self.now }
+        ensures len { length result.now ≡ byte_count (length self.now) }
         ensures short { length result.now ≤ 128 }
     {
         &self.bytes[..(self.len as usize).div_ceil(8)]

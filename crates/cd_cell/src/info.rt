@@ -1,5 +1,5 @@
-ghost use Rattle.std.specs.Prelude.{◌≡◌};
-ghost use Rattle.cd_cell.specs.Infos.{rep_of_info, height_of_info};
+ghost use Rattle.std.specs.Prelude.{◌≡◌, ◌≤◌};
+ghost use Rattle.cd_cell.specs.Infos.{info_hash, info_depth, rep_of_info, height_of_info};
 
 use crate::Mask;
 use cd_base::Hash256;
@@ -23,6 +23,22 @@ impl ChildInfo {
         hashes: [Hash256([0; 32]); 4],
         depths: [0; 4],
     };
+
+    /// The hash at a level.
+    pub fn hash_at(&self, level: u8) -> Hash256
+        requires { level ≤ 3 }
+        ensures { result ≡ info_hash self.now level }
+    {
+        self.hashes[level as usize]
+    }
+
+    /// The depth at a level.
+    pub fn depth_at(&self, level: u8) -> u16
+        requires { level ≤ 3 }
+        ensures { result ≡ info_depth self.now level }
+    {
+        self.depths[level as usize]
+    }
 
     /// The hash at level 3, which is the key of a stored cell.
     pub fn rep(&self) -> Hash256

@@ -13,11 +13,23 @@ use Rattle.cd_cell.specs.Levels.{mask_of_face, descriptor1, descriptor2}
 abbrev pub levels_of : ℕ → List ℕ
 levels_of mask = filter (is_significant mask) (0 ∷ 1 ∷ 2 ∷ 3 ∷ [])
 
--- a child: its mask, then its hashes at its significant levels, and then its depths at them
+-- the hash at a level, and the depth in two bytes
+abbrev pub hash_text : ChildInfo → ℕ → List ℕ
+hash_text k l = let hash = info_hash k l in hash.0
+
+abbrev pub depth_text : ChildInfo → ℕ → List ℕ
+depth_text k l = to_be_bytes w16 (info_depth k l)
+
+-- the hashes at the significant levels, from level 0 upwards, and the depths
+unfoldable pub hashes_text : ChildInfo → List ℕ
+hashes_text k = flat_map (hash_text k) (levels_of k.mask)
+
+unfoldable pub depths_text : ChildInfo → List ℕ
+depths_text k = flat_map (depth_text k) (levels_of k.mask)
+
+-- a child: its mask, then its hashes, and then its depths
 unfoldable pub kid_text : ChildInfo → List ℕ
-kid_text k =
-    k.mask ∷ flat_map (λ l. let hash = info_hash k l in hash.0) (levels_of k.mask)
-    ++ flat_map (λ l. to_be_bytes w16 (info_depth k l)) (levels_of k.mask)
+kid_text k = k.mask ∷ hashes_text k ++ depths_text k
 
 -- the version, four bytes of count, the cell's descriptors and data, and its children
 unfoldable pub record_text : ℕ → FaceView → List ℕ

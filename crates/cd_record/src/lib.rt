@@ -2,5 +2,7 @@
 #![tactic(auto)]
 
 mod record;
+mod writing;
 
 pub use record::Record;
+pub use writing::{encode, encode_cell};

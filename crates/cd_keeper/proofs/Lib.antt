@@ -1,0 +1,4 @@
+pub mod ChangeLaws
+pub mod KeyLaws
+pub mod TableLaws
+pub mod UndoLaws

@@ -1,0 +1,128 @@
+ghost use Rattle.std.specs.Prelude.{◌≡◌, ◌∷◌, ◌++◌, [], map, OnOk, OnErr};
+ghost use Rattle.cd_keeper.specs.Shown.{entries_of, hash_bytes, desc_bytes};
+ghost use Rattle.cd_keeper.specs.NoKeyTwice.{HasNoKeyTwice, IsNew, cell_keys, desc_keys, change_of};
+
+use cd_base::{Hash256, Memory};
+use std::alloc::Global;
+use std::marker::Model;
+
+/// Puts and drops that a keeper takes as one. No key stands twice among the cells, none among the descriptions.
+#[derive(Drop)]
+pub struct Batch {
+    put_cells: Vec<(Hash256, Vec<u8>)>,
+    drop_cells: Vec<Hash256>,
+    put_descs: Vec<([u8; 80], Vec<u8>)>,
+    drop_descs: Vec<[u8; 80]>,
+}
+
+impl Model for Batch {
+    ghost use Rattle.cd_keeper.specs.Contents.{Change};
+    ghost use Rattle.cd_keeper.specs.NoKeyTwice.{HasNoKeyTwice, change_of};
+
+    ghost Value = { Change };
+
+    ghost view = { λ b. change_of b.put_cells.items b.drop_cells.items b.put_descs.items b.drop_descs.items };
+
+    ghost invariant = { λ b. HasNoKeyTwice (change_of b.put_cells.items b.drop_cells.items b.put_descs.items b.drop_descs.items) };
+}
+
+impl Batch {
+    /// A batch without puts and drops.
+    pub fn new(alloc: Global) -> Batch
+        ensures { result ≡ record { put_cells = []; drop_cells = []; put_descs = []; drop_descs = [] } }
+    {
+        Batch {
+            put_cells: Vec::new(alloc),
+            drop_cells: Vec::new(alloc),
+            put_descs: Vec::new(alloc),
+            drop_descs: Vec::new(alloc),
+        }
+    }
+
+    /// A batch of these puts and drops.
+    pub fn from_parts(
+        put_cells: Vec<(Hash256, Vec<u8>)>,
+        drop_cells: Vec<Hash256>,
+        put_descs: Vec<([u8; 80], Vec<u8>)>,
+        drop_descs: Vec<[u8; 80]>,
+    ) -> Batch
+        requires { HasNoKeyTwice (change_of put_cells.items drop_cells.items put_descs.items drop_descs.items) }
+        ensures { result ≡ change_of put_cells.items drop_cells.items put_descs.items drop_descs.items }
+    {
+        Batch {
+            put_cells,
+            drop_cells,
+            put_descs,
+            drop_descs,
+        }
+    }
+
+    /// Adds the put of a record under a hash that the batch doesn't name yet.
+    pub fn put_cell(&mut self, key: Hash256, value: Vec<u8>) -> Result<(), Memory>
+        requires { IsNew key.0 (cell_keys self.old) }
+        ensures ok { OnOk result (self.new
+            ≡ record self.old { put_cells = self.old.put_cells ++ (key.0, value.items) ∷ [] }) }
+        ensures err { OnErr result (self.new ≡ self.old) }
+    {
+        Ok(self.put_cells.push((key, value))?)
+    }
+
+    /// Adds the drop of a record under a hash that the batch doesn't name yet.
+    pub fn drop_cell(&mut self, key: Hash256) -> Result<(), Memory>
+        requires { IsNew key.0 (cell_keys self.old) }
+        ensures ok { OnOk result (self.new
+            ≡ record self.old { drop_cells = self.old.drop_cells ++ key.0 ∷ [] }) }
+        ensures err { OnErr result (self.new ≡ self.old) }
+    {
+        Ok(self.drop_cells.push(key)?)
+    }
+
+    /// Adds the put of a description under a key that the batch doesn't name yet.
+    pub fn put_desc(&mut self, key: [u8; 80], value: Vec<u8>) -> Result<(), Memory>
+        requires { IsNew key (desc_keys self.old) }
+        ensures ok { OnOk result (self.new
+            ≡ record self.old { put_descs = self.old.put_descs ++ (key, value.items) ∷ [] }) }
+        ensures err { OnErr result (self.new ≡ self.old) }
+    {
+        Ok(self.put_descs.push((key, value))?)
+    }
+
+    /// Adds the drop of a description under a key that the batch doesn't name yet.
+    pub fn drop_desc(&mut self, key: [u8; 80]) -> Result<(), Memory>
+        requires { IsNew key (desc_keys self.old) }
+        ensures ok { OnOk result (self.new
+            ≡ record self.old { drop_descs = self.old.drop_descs ++ key ∷ [] }) }
+        ensures err { OnErr result (self.new ≡ self.old) }
+    {
+        Ok(self.drop_descs.push(key)?)
+    }
+
+    /// The records to put, in the order in which they were added.
+    pub fn put_cells(&self) -> &[(Hash256, Vec<u8>)]
+        ensures value { entries_of hash_bytes result.now ≡ self.now.put_cells }
+        ensures once { HasNoKeyTwice self.now }
+    {
+        &self.put_cells
+    }
+
+    /// The hashes of the records to drop.
+    pub fn drop_cells(&self) -> &[Hash256]
+        ensures { map hash_bytes result.now ≡ self.now.drop_cells }
+    {
+        &self.drop_cells
+    }
+
+    /// The descriptions to put, in the order in which they were added.
+    pub fn put_descs(&self) -> &[([u8; 80], Vec<u8>)]
+        ensures { entries_of desc_bytes result.now ≡ self.now.put_descs }
+    {
+        &self.put_descs
+    }
+
+    /// The keys of the descriptions to drop.
+    pub fn drop_descs(&self) -> &[[u8; 80]]
+        ensures { map desc_bytes result.now ≡ self.now.drop_descs }
+    {
+        &self.drop_descs
+    }
+}

@@ -1,0 +1,98 @@
+ghost use Rattle.std.specs.Prelude.{◌≡◌, ◌++◌, ◌^◌, ◌<◌, ◌≤◌, [], OnOk, IfOk, if◌then◌else◌};
+ghost use Rattle.std.specs.List.{flat_map};
+ghost use Rattle.cd_cell.specs.Masks.{is_significant};
+ghost use Rattle.cd_cell.specs.Fit.{IsFaceFit};
+ghost use Rattle.cd_record.specs.RecordText.{kid_text, hashes_text, depths_text, record_text, hash_text, depth_text};
+
+use crate::record::Record;
+use cd_base::Memory;
+use cd_cell::{ChildInfo, Face};
+use std::alloc::{AllocError, Global};
+
+/// The one text of a record.
+pub fn encode(alloc: Global, cell_record: &Record) -> Result<Vec<u8>, Memory>
+    requires some { 1 ≤ cell_record.now.count }
+    requires few { cell_record.now.count < 2 ^ 32 }
+    requires fit { IsFaceFit cell_record.now.face }
+    ensures { IfOk result (λ text. text.items ≡ record_text cell_record.now.count cell_record.now.face) }
+{
+    encode_cell(alloc, cell_record.count as u32, &cell_record.face)
+}
+
+/// The one text of the record of a count, at least 1, and a face, which isn't copied.
+pub fn encode_cell(alloc: Global, count: u32, face: &Face) -> Result<Vec<u8>, Memory>
+    requires some { 1 ≤ count }
+    requires fit { IsFaceFit face.now }
+    ensures { IfOk result (λ text. text.items ≡ record_text count face.now) }
+{
+    let mut text = Vec::new(alloc);
+    text.push(1)?;
+    text.extend_from_slice(&count.to_be_bytes())?;
+    text.extend_from_slice(&face.descriptors(face.mask()))?;
+    text.extend_from_slice(face.bits().data())?;
+    put_kids(&mut text, face.kids())?;
+    Ok(text)
+}
+
+/// Adds what the children show of themselves.
+fn put_kids(text: &mut Vec<u8>, kids: &[ChildInfo]) -> Result<(), AllocError>
+    ensures { OnOk result (text.new.items ≡ text.old.items ++ flat_map kid_text kids.now) }
+{
+    for kid in kids {
+        put_kid(text, kid)?;
+    }
+    Ok(())
+}
+
+/// Adds what a child shows of itself: its mask, and hashes and depths at its significant levels.
+#[tactic(auto, unfolding(crate::specs::RecordText::kid_text))]
+fn put_kid(text: &mut Vec<u8>, kid: &ChildInfo) -> Result<(), AllocError>
+    ensures { OnOk result (text.new.items ≡ text.old.items ++ kid_text kid.now) }
+{
+    text.push(kid.mask.byte())?;
+    put_hashes(text, kid)?;
+    put_depths(text, kid)?;
+    Ok(())
+}
+
+fn put_hashes(text: &mut Vec<u8>, kid: &ChildInfo) -> Result<(), AllocError>
+    ensures { OnOk result (text.new.items ≡ text.old.items ++ hashes_text kid.now) }
+{
+    put_hash(text, kid, 0)?;
+    put_hash(text, kid, 1)?;
+    put_hash(text, kid, 2)?;
+    put_hash(text, kid, 3)?;
+    Ok(())
+}
+
+fn put_depths(text: &mut Vec<u8>, kid: &ChildInfo) -> Result<(), AllocError>
+    ensures { OnOk result (text.new.items ≡ text.old.items ++ depths_text kid.now) }
+{
+    put_depth(text, kid, 0)?;
+    put_depth(text, kid, 1)?;
+    put_depth(text, kid, 2)?;
+    put_depth(text, kid, 3)?;
+    Ok(())
+}
+
+/// Adds the hash at a level, where it is significant.
+fn put_hash(text: &mut Vec<u8>, kid: &ChildInfo, level: u8) -> Result<(), AllocError>
+    requires { level ≤ 3 }
+    ensures { OnOk result (text.new.items ≡ text.old.items ++ (if is_significant kid.now.mask level then hash_text kid.now level else [])) }
+{
+    if kid.mask.significant(level) {
+        text.extend_from_slice(&kid.hashes[level as usize].0)?;
+    }
+    Ok(())
+}
+
+/// Adds the depth at a level, where it is significant.
+fn put_depth(text: &mut Vec<u8>, kid: &ChildInfo, level: u8) -> Result<(), AllocError>
+    requires { level ≤ 3 }
+    ensures { OnOk result (text.new.items ≡ text.old.items ++ (if is_significant kid.now.mask level then depth_text kid.now level else [])) }
+{
+    if kid.mask.significant(level) {
+        text.extend_from_slice(&kid.depths[level as usize].to_be_bytes())?;
+    }
+    Ok(())
+}

@@ -1,0 +1,7 @@
+-- The children so far are counted, each under its own hash.
+use Rattle.std.proofs.Common.{◌≡◌, ℕ, ◌+◌, ◌≤◌, length, get_or, take, Some}
+use Rattle.cd_top.proofs.HeldLaws.{TalliedTo}
+use Rattle.cd_top.proofs.count.tally.Given as goal
+
+abbrev pub invariant-loop-place : goal.invariant-loop-place
+invariant-loop-place g l = TalliedTo l.cells l.held.kept.items l.i l.initial.counts l.counts l.place

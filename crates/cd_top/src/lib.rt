@@ -1,0 +1,6 @@
+//! The calls that the program makes: from words and bytes to a stored block and printed lines.
+#![tactic(auto)]
+
+mod collect;
+mod count;
+mod held;

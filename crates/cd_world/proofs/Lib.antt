@@ -1,0 +1,4 @@
+pub mod Among
+pub mod Subtrees
+pub mod Reached
+pub mod Held
