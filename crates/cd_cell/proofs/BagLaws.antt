@@ -6,7 +6,7 @@ use Rattle.std.proofs.lemmas.List.Elements.{Contains-get_or}
 use Rattle.cd_base.specs.declared.hash.Hash256.{Hash256}
 use Rattle.cd_cell.specs.declared.info.ChildInfo.{ChildInfo}
 use Rattle.cd_cell.specs.FaceView.{FaceView}
-use Rattle.cd_cell.specs.Levels.{info_of_face, rep_of_face}
+use Rattle.cd_cell.specs.Levels.{plain_depth, depth_of_face, info_of_face, rep_of_face}
 use Rattle.cd_cell.specs.Infos.{rep_of_info}
 use Rattle.cd_cell.specs.CellFaults.{kid_at, no_info}
 use Rattle.cd_cell.specs.Tree.{Tree, children, subtrees, info_of, face_of, rep_of, height_of, IsWellFormed}
@@ -15,11 +15,26 @@ use Rattle.cd_cell.specs.Export.{AreClashFree}
 use Rattle.cd_cell.specs.GoodFace.{IsGoodFace}
 use Rattle.cd_cell.specs.Bags.{no_face, face_at, ref_at, entry_of, entries_of, bag_trees, IsBag}
 use Rattle.cd_cell.proofs.Heights.{height_of-child}
+use Rattle.cd_cell.proofs.LevelRecursions.{at_levels}
 use Rattle.cd_cell.proofs.Subtrees.{Contains-first, Contains-later, Contains-cases, Contains-nil, Contains-mapped, subtree-itself, flat_map-listed, same_subtrees, info_of-face_of, list_of-trees_of, Contains-map, subtrees-cases, flat_map-cases, IsWellFormed-from}
 use Rattle.cd_cell.proofs.Unfoldings.{get_or-mapped, faces_from-is, infos_from-faces, behind-drop, unfolding_of-is, length-unfold_from, faces_from-end, faces_from-cons, faces_from-at, length-infos_from, length-faces_from}
 
 abbrev no_entry : Entry
 no_entry = entry_of no_face []
+
+-- ---- the empty cell
+
+no_depth : (l : ℕ) → l ≤ 3 → depth_of_face no_face l ≡ 0
+unfolding plain_depth
+no_depth = at_levels (λ l. depth_of_face no_face l ≡ 0) refl refl refl refl
+
+pub IsGoodFace-no_face : IsGoodFace no_face
+IsGoodFace-no_face =
+    record {
+      bits = omega arith;
+      kids = omega arith;
+      fit = record { known = λ e. cc e; pruned = λ e. absurd (cc e); library = λ e. absurd (cc e); proof = λ e. absurd (cc e); update = λ e. absurd (cc e); depths = λ l low. omega (arith, no_depth l low) };
+    }
 
 -- ---- entries by faces and numbers
 
