@@ -16,10 +16,6 @@ get_or-mapped f (x ∷ xs) zero d = refl
 get_or-mapped f (x ∷ xs) (suc k) d = get_or-mapped f xs k d
 
 module _ (H : List ℕ → Hash256) where
-  pub infos_of-trees_of : (ts : List Tree) → infos_of H (trees_of ts) ≡ map (info_of H) ts
-  infos_of-trees_of [] = refl
-  infos_of-trees_of (t ∷ ts) = ap (λ ks. info_of H t ∷ ks) (infos_of-trees_of ts)
-
   -- what the children show is looked up as the children are
   kids-looked_up : (i : ℕ) (later : List Tree) (refs : List ℕ) → map (behind i (map (info_of H) later) (info_of H no_tree)) refs ≡ infos_of H (trees_of (map (behind i later no_tree) refs))
   kids-looked_up i later [] = refl

@@ -93,3 +93,29 @@ six_zeros = cell false (replicate 6 false) no_trees
 other_face-refused : applied weak (update 3 18 0 0 root other_root) six_zeros ≡ Err (old_half (record { hash = weak_hash 3; stored = face_of weak six_zeros; shown = face_of weak root }))
 unfolding packed plain_hash plain_depth same_upto
 other_face-refused = refl
+
+-- ---- below a Merkle proof, at Merkle depth 1
+
+abbrev proof_over : ℕ → ℕ → Tree → Tree
+proof_over hash depth t = cell true (bits_of (3 ∷ weak_text hash ++ 0 ∷ depth ∷ [])) (tree_and t no_trees)
+
+-- a pruned branch of level 2
+abbrev hidden_twice : ℕ → ℕ → Tree
+hidden_twice hash depth = cell true (bits_of (1 ∷ 2 ∷ weak_text hash ++ 0 ∷ depth ∷ [])) no_trees
+
+abbrev over : ℕ → Tree → Tree
+over byte t = plain (byte ∷ []) (tree_and t no_trees)
+
+-- there a pruned branch of level 2 stands for a cell that isn't shown
+below_proof-applied : applied weak (update 170 171 2 2 (over 16 (proof_over 34 0 (hidden_twice 34 0))) (over 17 (proof_over 34 0 (hidden_twice 34 0)))) (over 16 (proof_over 34 0 child)) ≡ Ok (over 17 (proof_over 34 0 child))
+unfolding packed plain_hash plain_depth same_upto
+below_proof-applied = refl
+
+-- and one of level 1 is a cell like any other, which stays
+stays-applied : applied weak (update 3 0 0 2 (hidden 3 0) (over 17 (proof_over 7 0 (hidden 7 0)))) root ≡ Ok (over 17 (proof_over 7 0 (hidden 7 0)))
+unfolding packed plain_hash plain_depth same_upto
+stays-applied = refl
+
+stays-new : new_cells weak (update 3 0 0 2 (hidden 3 0) (over 17 (proof_over 7 0 (hidden 7 0)))) root ≡ over 17 (proof_over 7 0 (hidden 7 0)) ∷ proof_over 7 0 (hidden 7 0) ∷ hidden 7 0 ∷ []
+unfolding packed plain_hash plain_depth same_upto
+stays-new = refl
