@@ -1,3 +1,4 @@
 pub mod Graph
 pub mod Owners
 pub mod Held
+pub mod StatusText

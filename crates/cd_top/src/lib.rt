@@ -4,3 +4,7 @@
 mod collect;
 mod count;
 mod held;
+mod records;
+mod status;
+
+pub use status::{InputFault, Status, WordFault};

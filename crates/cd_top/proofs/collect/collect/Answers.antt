@@ -8,9 +8,6 @@ use Rattle.cd_top.proofs.OwnerLaws.{WalkedTo-first, WalkedTo-visit, WalkedTo-ski
 use Rattle.cd_top.proofs.collect.collect.Goals as goal
 use Rattle.cd_top.proofs.collect.collect.Goals.{then-is_some+in_ok-visit, else-is_some}
 
-pub visit-requires-clause-owners : goal.visit-requires-clause-owners
-visit-requires-clause-owners g c = c.loop-i.invariant.owners
-
 pub index-requires : goal.index-requires
 index-requires g c = omega (arith, c.loop-i.invariant.owners.long)
 
