@@ -1,3 +1,4 @@
 pub mod Hashes
 pub mod OwnerLaws
 pub mod HeldLaws
+pub mod Lift

@@ -2,3 +2,4 @@ pub mod Graph
 pub mod Owners
 pub mod Held
 pub mod StatusText
+pub mod Zero

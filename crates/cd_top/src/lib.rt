@@ -6,5 +6,6 @@ mod count;
 mod held;
 mod records;
 mod status;
+mod zero;
 
 pub use status::{InputFault, Status, WordFault};
