@@ -1,8 +1,14 @@
 pub mod Bytes
 pub mod Keys
+pub mod DescrFields
+pub mod Descriptions
+pub mod Halves
 pub mod HexTexts
+pub mod IdLoop
 pub mod Numbers
 pub mod Options
 pub mod Order
+pub mod Passing
+pub mod Prefixes
 pub mod Signs
 pub mod Spelt

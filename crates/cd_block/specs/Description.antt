@@ -1,11 +1,11 @@
 -- The text of a stored block's description, under the block's key.
 use Rattle.std.specs.Prelude.{ℕ, ◌<◌, ◌≤◌, List, [], ◌∷◌, ◌++◌, length, IsTrue}
-use Rattle.std.specs.List.{flat_map}
+use Rattle.std.specs.List.{flat_map, AllByRecursion}
 use Rattle.std.specs.Int.{w16, to_be_bytes, from_bool}
 use Rattle.cd_block.specs.declared.block.BlockId.{BlockId}
 use Rattle.cd_block.specs.declared.description.Descr.{Descr}
 use Rattle.cd_block.specs.Shard.{is_master}
-use Rattle.cd_block.specs.Block.{key_of}
+use Rattle.cd_block.specs.Block.{IsHash, IsBlockId, key_of}
 
 -- a number of ids in one byte, and their keys
 unfoldable pub ids_text : List BlockId → List ℕ
@@ -23,3 +23,10 @@ pub record IsDescrFit (d : Descr) : Type 0 where
   pub tops : length d.tops ≤ 64
   -- shard tops stand on a masterchain block alone
   pub tops_on_master : 0 < length d.tops → IsTrue (is_master d.id.shard_id)
+
+-- what each description of the program is; a clause that ranges over all of them has this as its premise
+pub record IsDescr (d : Descr) : Type 0 where
+  pub id : IsBlockId d.id
+  pub parents : AllByRecursion IsBlockId d.parents
+  pub root : IsHash d.root
+  pub tops : AllByRecursion IsBlockId d.tops

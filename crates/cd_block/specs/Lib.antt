@@ -3,5 +3,6 @@ pub mod Block
 pub mod Spelling
 pub mod Parsing
 pub mod Description
+pub mod Reading
 pub mod Lineage
 pub mod Expiry

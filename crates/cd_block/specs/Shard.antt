@@ -1,7 +1,7 @@
 -- Shards by the prefixes of their numbers.
-use Rattle.std.specs.Prelude.{ℕ, zero, suc, ◌+◌, ◌==◌, ◌&&◌, ◌||◌, nat_eq, Bool, false, negsuc, List, [], ◌∷◌, length, Option, Some, None, if◌then◌else◌}
+use Rattle.std.specs.Prelude.{ℕ, zero, suc, ◌+◌, ◌/◌, ◌%◌, ◌==◌, ◌&&◌, ◌||◌, nat_eq, Bool, false, negsuc, List, [], ◌∷◌, length, Option, Some, None, if◌then◌else◌}
 use Rattle.std.specs.Int.{is_negative, bit_at}
-use Rattle.std.specs.List.{before_last, starts_with}
+use Rattle.std.specs.List.{starts_with}
 use Rattle.std.specs.Ordering.{on, then_cmp, bool_cmp, int_cmp, int_eq, nat_cmp}
 use Rattle.std.specs.declared.cmp.Ordering.{Ordering}
 use Rattle.cd_block.specs.declared.shard.ShardId.{ShardId}
@@ -15,9 +15,15 @@ unfoldable pub low_bits : ℕ → ℕ → List ℕ
 low_bits zero number = []
 low_bits (suc n) number = bit_at number n ∷ low_bits n number
 
--- the bits above the tag, which is the lowest bit that is set; 0 has no tag
+-- The prefix of a number of so many bits: the bits above the tag, which is the lowest bit that is set. The number
+-- 0 has no tag, and so no prefix.
+unfoldable pub prefix_within : ℕ → ℕ → Option (List ℕ)
+prefix_within zero number = None
+prefix_within (suc n) number = if number % 2 == 1 then Some (low_bits n (number / 2)) else prefix_within n (number / 2)
+
+-- the prefix of a shard number
 unfoldable pub prefix_of : ℕ → Option (List ℕ)
-prefix_of shard = if shard == 0 then None else Some (before_last (λ bit. bit == 1) (low_bits 64 shard))
+prefix_of shard = prefix_within 64 shard
 
 -- one prefix begins the other
 unfoldable pub is_either_prefix : Option (List ℕ) → Option (List ℕ) → Bool

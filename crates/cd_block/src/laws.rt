@@ -1,4 +1,4 @@
-//! What holds of all ids, as contracts of functions that do nothing.
+//! What holds of all ids and descriptions, as contracts of functions that do nothing.
 
 ghost use Rattle.std.specs.Prelude.{◌≡◌, length};
 ghost use Rattle.std.specs.Cmp.Lexicographic.{slice_cmp};
@@ -6,6 +6,9 @@ ghost use Rattle.std.specs.Ordering.{nat_cmp};
 ghost use Rattle.cd_block.specs.declared.block.BlockId.{BlockId};
 ghost use Rattle.cd_block.specs.Block.{IsBlockId, key_of, id_of, id_cmp};
 ghost use Rattle.cd_block.specs.Spelling.{id_text};
+ghost use Rattle.cd_block.specs.declared.description.Descr.{Descr};
+ghost use Rattle.cd_block.specs.Description.{descr_text, IsDescr, IsDescrFit};
+ghost use Rattle.cd_block.specs.Reading.{descr_in};
 
 /// No two ids share a key, and the id of an id's key is that id.
 pub fn a_key_has_one_id()
@@ -22,4 +25,11 @@ pub fn ids_are_ordered_by_key()
 /// No two ids share a spelling.
 pub fn a_spelling_has_one_id()
     ensures { (a b : BlockId) → IsBlockId a → IsBlockId b → id_text a ≡ id_text b → a ≡ b }
+{}
+
+/// The text of a description is read back as that description, and no two descriptions of a block share a text.
+pub fn a_text_has_one_description()
+    ensures back { (d : Descr) → IsDescr d → IsDescrFit d → descr_in (key_of d.id) (descr_text d) ≡ Ok d }
+    ensures one { (a b : Descr) → IsDescr a → IsDescrFit a → IsDescr b → IsDescrFit b
+        → key_of a.id ≡ key_of b.id → descr_text a ≡ descr_text b → a ≡ b }
 {}

@@ -78,5 +78,128 @@ fn a_zero_state_is_described(rt: HostRuntime) -> Result<(), Fail> {
 #[test]
 fn a_key_begins_with_the_workchain(rt: HostRuntime) {
     let key = zero_state().to_key();
+    assert!(rt; block(0, WHOLE, 9) < zero_state());
+    assert_eq!(rt; BlockId::from_key(&key), zero_state());
     assert_eq!(rt; &key[..5], [0xff, 0xff, 0xff, 0xff, 0x80].as_slice());
+}
+
+#[test]
+fn a_description_is_read(rt: HostRuntime) -> Result<(), Fail> {
+    let descr = decode_descr(rt.alloc(), &zero_state().to_key(), &DESCRIPTION)?;
+    assert_eq!(rt; descr.id, zero_state());
+    assert_eq!(rt; descr.root, EMPTY_CELL);
+    assert_eq!(rt; descr.depth, 0);
+    assert!(rt; descr.parents.is_empty() && descr.tops.is_empty() && !descr.leaving);
+    Ok(())
+}
+
+const WHOLE: u64 = 0x8000_0000_0000_0000;
+
+const LEFT: u64 = 0x4000_0000_0000_0000;
+
+const RIGHT: u64 = 0xc000_0000_0000_0000;
+
+fn block(workchain: i32, shard: u64, seqno: u32) -> BlockId {
+    BlockId {
+        shard_id: ShardId { workchain, shard },
+        seqno,
+        root: ZEROS,
+        file: ZEROS,
+    }
+}
+
+#[test]
+fn a_shard_stays_or_splits(rt: HostRuntime) {
+    let parent = [block(0, WHOLE, 0)];
+    assert_eq!(rt; lineage(&block(0, WHOLE, 1), &parent), Ok(()));
+    assert_eq!(rt; lineage(&block(0, LEFT, 1), &parent), Ok(()));
+    assert_eq!(rt;
+        lineage(&block(0, LEFT / 2, 1), &parent),
+        Err(LineageFault::Shard)
+    );
+    assert_eq!(rt;
+        lineage(&block(0, WHOLE, 1), &[block(0, LEFT, 0)]),
+        Err(LineageFault::Shard)
+    );
+    assert_eq!(rt;
+        lineage(&block(-1, LEFT, 1), &[block(-1, WHOLE, 0)]),
+        Err(LineageFault::Shard)
+    );
+}
+
+#[test]
+fn a_seqno_follows_the_parents(rt: HostRuntime) {
+    let late = LineageFault::Seqno { stated: 2, due: 1 };
+    assert_eq!(rt;
+        lineage(&block(0, WHOLE, 2), &[block(0, WHOLE, 0)]),
+        Err(late)
+    );
+    let past_the_last = LineageFault::Seqno {
+        stated: 0,
+        due: 4_294_967_296,
+    };
+    assert_eq!(rt;
+        lineage(&block(0, WHOLE, 0), &[block(0, WHOLE, u32::MAX)]),
+        Err(past_the_last)
+    );
+    assert_eq!(rt; lineage(&zero_state(), &[]), Ok(()));
+}
+
+#[test]
+fn a_block_expires_by_every_top_that_it_meets(rt: HostRuntime) {
+    let master = block(-1, WHOLE, 9);
+    let tops = [block(0, LEFT, 5), block(0, RIGHT, 6)];
+    assert!(rt; expires(&block(0, WHOLE, 4), &master, &tops));
+    assert!(rt; !expires(&block(0, WHOLE, 5), &master, &tops));
+    assert!(rt; !expires(&block(0, WHOLE, 4), &master, &[]));
+    assert!(rt; !expires(&block(1, WHOLE, 4), &master, &tops));
+    assert!(rt; expires(&block(-1, WHOLE, 8), &master, &tops));
+}
+
+#[test]
+fn a_shard_of_63_bits_is_a_half(rt: HostRuntime) {
+    let smallest = ShardId {
+        workchain: 0,
+        shard: 1,
+    };
+    let above = ShardId {
+        workchain: 0,
+        shard: 2,
+    };
+    assert_eq!(rt; smallest.parent(), Some(above));
+    assert!(rt; smallest.is_child_of(&above) && smallest.meets(&above));
+}
+
+#[test]
+fn the_shard_number_0_meets_nothing(rt: HostRuntime) {
+    let none = ShardId {
+        workchain: 0,
+        shard: 0,
+    };
+    assert_eq!(rt; none.parent(), None);
+    assert!(rt; !none.meets(&none));
+}
+
+#[test]
+fn tops_are_read_back(rt: HostRuntime) -> Result<(), Fail> {
+    let tops = vec![in rt.alloc(); block(0, LEFT, 5), block(0, RIGHT, 6)]?;
+    let descr = Descr {
+        id: zero_state(),
+        parents: BlockIds::new(rt.alloc()),
+        root: EMPTY_CELL,
+        depth: 0,
+        tops: BlockIds::from(tops),
+        leaving: true,
+    };
+    assert!(rt; descr.id.shard_id.is_master());
+    assert_eq!(rt; descr.tops.len(), 2);
+    let text = encode_descr(rt.alloc(), &descr)?;
+    let read = decode_descr(rt.alloc(), &descr.id.to_key(), &text)?;
+    assert_eq!(rt;
+        read.tops.as_slice(),
+        [block(0, LEFT, 5), block(0, RIGHT, 6)].as_slice()
+    );
+    assert_eq!(rt; read.tops.into_vec().len(), descr.tops.len());
+    assert!(rt; read.leaving);
+    Ok(())
 }

@@ -1,10 +1,10 @@
 -- Laws of depths: what a cell shows is steady above its level, and the height of a cell is one more than the
 -- greatest height of a child.
-use Rattle.std.proofs.Common.{◌≡◌, ◌≢◌, ℕ, zero, suc, ◌+◌, ◌*◌, ◌/◌, ◌%◌, ◌^◌, ◌<◌, ◌≤◌, max, List, [], ◌∷◌, ◌++◌, flat_map, Option, Some, None, Bool, true, false, All, Contains, map, fold, refl, ap, sym, ◌∙◌, subst, ap₂, add-one, le_refl, le_of_eq, le_of_lt, lt_of_le_of_lt, inl, inr, ⊎_elim, ◌⊎◌, bit_or, arith, nat_lt, if◌then◌else◌}
+use Rattle.std.proofs.Common.{length, get_or, ◌≡◌, ◌≢◌, ℕ, zero, suc, ◌+◌, ◌*◌, ◌/◌, ◌%◌, ◌^◌, ◌<◌, ◌≤◌, max, List, [], ◌∷◌, ◌++◌, flat_map, Option, Some, None, Bool, true, false, All, Contains, map, fold, refl, ap, sym, ◌∙◌, subst, ap₂, add-one, le_refl, le_of_eq, le_of_lt, lt_of_le_of_lt, inl, inr, ⊎_elim, ◌⊎◌, bit_or, arith, nat_lt, if◌then◌else◌}
 use Rattle.std.specs.Int.{w16, to_be_bytes, bit_at}
 use Rattle.std.proofs.lemmas.Nat.{or_lt}
 use Rattle.std.proofs.lemmas.Nat.Bits.{bit_at_or, bit_at-suc}
-use Rattle.std.proofs.lemmas.List.Elements.{All-nil, All-cons, All-head, All-tail, Contains-append_cases}
+use Rattle.std.proofs.lemmas.List.Elements.{All-contains, Contains-get_or, All-nil, All-cons, All-head, All-tail, Contains-append_cases}
 use Rattle.std.proofs.lemmas.List.{nil_from_length}
 use borrow.Author.Tests.{eqb-false, ne_eqb, le-ltb}
 use Rattle.cd_base.specs.declared.hash.Hash256.{Hash256}
@@ -41,7 +41,7 @@ representation-no_kids f mask contents l m none =
     ap (with_kids l) none ∙ sym (ap (with_kids m) none)
 
 -- a pruned branch, or none
-pruned-cases : (kind : Option Kind) → (kind ≡ Some Pruned) ⊎ (is_pruned kind ≡ false)
+pub pruned-cases : (kind : Option Kind) → (kind ≡ Some Pruned) ⊎ (is_pruned kind ≡ false)
 pruned-cases None = inr refl
 pruned-cases (Some Ordinary) = inr refl
 pruned-cases (Some Pruned) = inl refl
@@ -49,16 +49,16 @@ pruned-cases (Some Library) = inr refl
 pruned-cases (Some Proof) = inr refl
 pruned-cases (Some Update) = inr refl
 
-abbrev if_pruned : {A : Type 0} → FaceView → A → A → A
+abbrev pub if_pruned : {A : Type 0} → FaceView → A → A → A
 if_pruned f stated plain = if is_pruned (kind_of_face f) then stated else plain
 
-if_pruned-yes : {A : Type 0} (f : FaceView) → kind_of_face f ≡ Some Pruned → (stated plain : A) → if_pruned f stated plain ≡ stated
+pub if_pruned-yes : {A : Type 0} (f : FaceView) → kind_of_face f ≡ Some Pruned → (stated plain : A) → if_pruned f stated plain ≡ stated
 if_pruned-yes f e stated plain = ap (λ kind. if is_pruned kind then stated else plain) e
 
-if_pruned-no : {A : Type 0} (f : FaceView) → is_pruned (kind_of_face f) ≡ false → (stated plain : A) → if_pruned f stated plain ≡ plain
+pub if_pruned-no : {A : Type 0} (f : FaceView) → is_pruned (kind_of_face f) ≡ false → (stated plain : A) → if_pruned f stated plain ≡ plain
 if_pruned-no f e stated plain = ap (λ pruned. if pruned then stated else plain) e
 
-no_kids-pruned : (f : FaceView) → IsFaceFit f → kind_of_face f ≡ Some Pruned → f.kids ≡ []
+pub no_kids-pruned : (f : FaceView) → IsFaceFit f → kind_of_face f ≡ Some Pruned → f.kids ≡ []
 no_kids-pruned f fit e = nil_from_length f.kids (fit.pruned e).refs
 
 module _ (f : FaceView) where
@@ -71,7 +71,7 @@ module _ (f : FaceView) where
       let count = bit_count (mask_of_face f) in
       ap (λ place. if nat_lt place count then stated_depth f (2 + 32 * count + 2 * place) else 0) (lowest_count-same (mask_of_face f) l below off)
 
-  depth_of_face-same : (l : ℕ) → l < 3 → is_significant (mask_of_face f) (l + 1) ≡ false → depth_of_face f (l + 1) ≡ depth_of_face f l
+  pub depth_of_face-same : (l : ℕ) → l < 3 → is_significant (mask_of_face f) (l + 1) ≡ false → depth_of_face f (l + 1) ≡ depth_of_face f l
   depth_of_face-same zero below off = ap₂ (if_pruned f) (pruned_depth-same 0 below off) (plain_depth-same 0 off)
   depth_of_face-same (suc zero) below off = ap₂ (if_pruned f) (pruned_depth-same 1 below off) (plain_depth-same 1 off)
   depth_of_face-same (suc (suc zero)) below off = ap₂ (if_pruned f) (pruned_depth-same 2 below off) (plain_depth-same 2 off)
@@ -108,7 +108,7 @@ module _ (f : FaceView) where
 
 -- ---- the masks of children, joined
 
-abbrev joined : ℕ → List ChildInfo → ℕ
+abbrev pub joined : ℕ → List ChildInfo → ℕ
 joined mask ks = fold (λ m k. bit_or m k.mask) mask ks
 
 -- a bit of no child isn't set
@@ -119,7 +119,7 @@ joined-clear mask i (k ∷ ks) clear =
     let both : max (bit_at mask i) (bit_at k.mask i) ≡ 0 = sym (bit_at_or mask k.mask i) ∙ rest.0 in
     (omega arith, All-cons (λ k. bit_at k.mask i ≡ 0) k ks (omega arith) rest.1)
 
-joined-small : (mask : ℕ) (ks : List ChildInfo) → mask ≤ 7 → All (λ k. k.mask ≤ 7) ks → joined mask ks ≤ 7
+pub joined-small : (mask : ℕ) (ks : List ChildInfo) → mask ≤ 7 → All (λ k. k.mask ≤ 7) ks → joined mask ks ≤ 7
 joined-small mask [] small all = small
 joined-small mask (k ∷ ks) small all =
     let head : k.mask ≤ 7 = All-head (λ k. k.mask ≤ 7) k ks all in
@@ -132,7 +132,7 @@ bit-clear mask (suc zero) below off = let clear : mask / 2 % 2 ≢ 1 = eqb-false
 bit-clear mask (suc (suc zero)) below off = let clear : mask / 4 % 2 ≢ 1 = eqb-false _ _ off in omega arith
 bit-clear mask (suc (suc (suc l))) below off = absurd (omega arith)
 
-clear-bit : (mask l : ℕ) → l < 3 → bit_at mask l ≡ 0 → is_significant mask (l + 1) ≡ false
+pub clear-bit : (mask l : ℕ) → l < 3 → bit_at mask l ≡ 0 → is_significant mask (l + 1) ≡ false
 clear-bit mask zero below clear = ne_eqb (mask / 1 % 2) 1 (λ e. omega arith)
 clear-bit mask (suc zero) below clear = ne_eqb (mask / 2 % 2) 1 (λ e. omega arith)
 clear-bit mask (suc (suc zero)) below clear = ne_eqb (mask / 4 % 2) 1 (λ e. omega arith)
@@ -163,10 +163,9 @@ module _ (H : List ℕ → Hash256) (f : FaceView) (fit : IsFaceFit f) where
   info_depth-same (suc (suc zero)) below off = depth_of_face-same f 2 below off
   info_depth-same (suc (suc (suc l))) below off = absurd (omega arith)
 
-  -- what a cell shows is steady where what its children show is
-  pub IsSteady-info_of_face : All IsSteady f.kids → IsSteady (info_of_face H f)
-  IsSteady-info_of_face steady =
-      record { small = mask_of_face-small f fit (λ k d below. (steady k d below).small); hashes = info_hash-same; depths = info_depth-same }
+  -- what a cell shows is steady, whatever the masks of its children
+  pub IsSteady-info_of_face : All (λ k. k.mask ≤ 7) f.kids → IsSteady (info_of_face H f)
+  IsSteady-info_of_face small = record { small = mask_of_face-small f fit small; hashes = info_hash-same; depths = info_depth-same }
 
 -- ---- depths by those of the children
 
@@ -194,6 +193,10 @@ module _ (ks : List ChildInfo) (steady : All IsSteady ks) where
 no_kids-same : (ks : List ChildInfo) → ks ≡ [] → (l m : ℕ) → depth_above l ks ≡ depth_above m ks
 no_kids-same ks none l m = ap (depth_above l) none ∙ sym (ap (depth_above m) none)
 
+whole_level : (merkle : Bool) → below_merkle merkle 3 ≡ 3
+whole_level true = refl
+whole_level false = refl
+
 module _ (f : FaceView) (fit : IsFaceFit f) (steady : All IsSteady f.kids) where
   -- at a level that isn't significant for a cell its children's depths are those at the level below
   depth_above-same : (l : ℕ) → l < 3 → is_significant (mask_of_face f) (l + 1) ≡ false → depth_above (kid_level f (l + 1)) f.kids ≡ depth_above (kid_level f l) f.kids
@@ -218,10 +221,6 @@ module _ (f : FaceView) (fit : IsFaceFit f) (steady : All IsSteady f.kids) where
   unfolding plain_depth
   plain_depth-is zero below = refl
   plain_depth-is (suc l) below = plain_depth-more l (omega arith) (plain_depth-is l (omega arith)) (is_significant (mask_of_face f) (suc l)) refl
-
-  whole_level : (merkle : Bool) → below_merkle merkle 3 ≡ 3
-  whole_level true = refl
-  whole_level false = refl
 
   pruned_height : kind_of_face f ≡ Some Pruned → pruned_depth f 3 ≡ 0
   pruned_height e =
@@ -252,15 +251,64 @@ depth_above-each l depth (k ∷ ks) =
     let below = depth_above-bound l (max depth (info_depth k l + 1)) ks in
     All-cons (λ x. info_depth x l < fold (λ d k. max d (info_depth k l + 1)) (max depth (info_depth k l + 1)) ks) k ks (omega arith) (depth_above-each l (max depth (info_depth k l + 1)) ks)
 
-pub height_of_face-kids : (f : FaceView) → IsFaceFit f → All IsSteady f.kids → All (λ k. height_of_info k < height_of_face f) f.kids
-height_of_face-kids f fit steady =
-    subst (λ h. All (λ k. height_of_info k < h) f.kids) (sym (height_of_face-is f fit steady)) (depth_above-each 3 0 f.kids)
+-- one kid that is steady, among any others
+module _ (f : FaceView) (fit : IsFaceFit f) (k : ChildInfo) (in' : Contains f.kids k) (steady : IsSteady k) where
+  one_kid : (l : ℕ) → l < 3 → bit_at (all_masks f.kids) l ≡ 0 → info_depth k (l + 1) ≡ info_depth k l
+  one_kid l below clear =
+      steady.depths l below (clear-bit k.mask l below (All-contains (λ k. bit_at k.mask l ≡ 0) f.kids k (joined-clear 0 l f.kids clear).1 in'))
+
+  one_merkle_kid : (l : ℕ) → l < 3 → bit_at (all_masks f.kids / 2) l ≡ 0 → info_depth k (below_merkle true (l + 1)) ≡ info_depth k (below_merkle true l)
+  one_merkle_kid zero below clear = one_kid 1 (omega arith) (bit_at-suc (all_masks f.kids) 0 ∙ clear)
+  one_merkle_kid (suc zero) below clear = one_kid 2 (omega arith) (bit_at-suc (all_masks f.kids) 1 ∙ clear)
+  one_merkle_kid (suc (suc zero)) below clear = refl
+  one_merkle_kid (suc (suc (suc l))) below clear = absurd (omega arith)
+
+  some_kid : length f.kids ≡ 0 → ⊥
+  some_kid none = omega (arith, none, in'.1)
+
+  kid_depth-same : (l : ℕ) → l < 3 → is_significant (mask_of_face f) (l + 1) ≡ false → info_depth k (kid_level f (l + 1)) ≡ info_depth k (kid_level f l)
+  kid_depth-same l below off = go (kind_of_face f) refl (bit-clear (mask_of_face f) l below off)
+    where
+      go : (kind : Option Kind) → kind_of_face f ≡ kind → bit_at (mask_by_kind kind (data_of f.bits) f.kids) l ≡ 0 → info_depth k (below_merkle (is_merkle kind) (l + 1)) ≡ info_depth k (below_merkle (is_merkle kind) l)
+      go None e clear = absurd (fit.known e)
+      go (Some Ordinary) e clear = one_kid l below clear
+      go (Some Pruned) e clear = absurd (some_kid (fit.pruned e).refs)
+      go (Some Library) e clear = absurd (some_kid (fit.library e).refs)
+      go (Some Proof) e clear = one_merkle_kid l below clear
+      go (Some Update) e clear = one_merkle_kid l below clear
+
+  kid_lower : (l : ℕ) → info_depth k l < depth_above l f.kids
+  kid_lower l = All-contains (λ k. info_depth k l < depth_above l f.kids) f.kids k (depth_above-each l 0 f.kids) in'
+
+  plain_depth-step : (l : ℕ) → l < 3 → info_depth k (kid_level f l) < plain_depth f l → (b : Bool) → is_significant (mask_of_face f) (suc l) ≡ b → info_depth k (kid_level f (suc l)) < (if b then depth_above (kid_level f (suc l)) f.kids else plain_depth f l)
+  plain_depth-step l below lower true e = kid_lower (kid_level f (suc l))
+  plain_depth-step l below lower false e =
+      let off = subst (λ m. is_significant (mask_of_face f) m ≡ false) (sym (add-one l)) e in
+      omega (arith, kid_depth-same l below off, ap (λ m. info_depth k (kid_level f m)) (add-one l))
+
+  plain_depth-above : (l : ℕ) → l ≤ 3 → info_depth k (kid_level f l) < plain_depth f l
+  unfolding plain_depth
+  plain_depth-above zero low = kid_lower (kid_level f 0)
+  plain_depth-above (suc l) low = plain_depth-step l (omega arith) (plain_depth-above l (omega arith)) (is_significant (mask_of_face f) (suc l)) refl
+
+  -- it is lower than its parent
+  pub height_of_face-kid : height_of_info k < height_of_face f
+  height_of_face-kid =
+      ⊎_elim
+      (λ e. absurd (some_kid (fit.pruned e).refs))
+      (λ e.
+      let lower = plain_depth-above 3 (omega arith) in
+      omega (arith, if_pruned-no f e (pruned_depth f 3) (plain_depth f 3), ap (info_depth k) (whole_level (is_merkle (kind_of_face f)))))
+      (pruned-cases (kind_of_face f))
+
+height_of_face-kids : (f : FaceView) → IsFaceFit f → All IsSteady f.kids → All (λ k. height_of_info k < height_of_face f) f.kids
+height_of_face-kids f fit steady = λ i d in'. height_of_face-kid f fit (get_or f.kids i d) (Contains-get_or f.kids i d in') (steady i d in')
 
 module _ (H : List ℕ → Hash256) where
   mutual
     pub IsSteady-info_of : (t : Tree) → IsWellFormed H t → IsSteady (info_of H t)
     IsSteady-info_of (cell exotic bits ts) good =
-        IsSteady-info_of_face H (record { exotic = exotic; bits = bits; kids = infos_of H ts }) good.2 (IsSteady-infos_of ts good.3)
+        IsSteady-info_of_face H (record { exotic = exotic; bits = bits; kids = infos_of H ts }) good.2 (λ k d in'. (IsSteady-infos_of ts good.3 k d in').small)
 
     pub IsSteady-infos_of : (ts : Trees) → AreWellFormed H ts → All IsSteady (infos_of H ts)
     IsSteady-infos_of no_trees good = All-nil IsSteady

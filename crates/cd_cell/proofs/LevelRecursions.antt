@@ -28,7 +28,7 @@ mask_over-is (Some Update) bytes ks = ap (λ m. m / 2) (sym (fold-map bit_or (λ
 one_above-is : (l : ℕ) (ks : List ChildInfo) → depth_above l ks ≡ one_above (map (λ k. info_depth k l) ks)
 one_above-is l ks = sym (fold-map (λ d k. max d (k + 1)) (λ k. info_depth k l) 0 ks)
 
-below_merkle-low : (merkle : Bool) (l : ℕ) → l ≤ 3 → below_merkle merkle l ≤ 3
+pub below_merkle-low : (merkle : Bool) (l : ℕ) → l ≤ 3 → below_merkle merkle l ≤ 3
 below_merkle-low true l low = omega arith
 below_merkle-low false l low = low
 
@@ -87,7 +87,7 @@ module _ (f : FaceView) (mask : ℕ) (same_mask : mask_of_face f ≡ mask) (dept
 
 -- ---- whole trees
 
-at_levels : (P : ℕ → Type 0) → P 0 → P 1 → P 2 → P 3 → (l : ℕ) → l ≤ 3 → P l
+pub at_levels : (P : ℕ → Type 0) → P 0 → P 1 → P 2 → P 3 → (l : ℕ) → l ≤ 3 → P l
 at_levels P p q r s zero low = p
 at_levels P p q r s (suc zero) low = q
 at_levels P p q r s (suc (suc zero)) low = r
@@ -95,10 +95,10 @@ at_levels P p q r s (suc (suc (suc zero))) low = s
 at_levels P p q r s (suc (suc (suc (suc l)))) low = absurd (omega arith)
 
 -- what a face shows at a level
-depth_of_info : (H : List ℕ → Hash256) (f : FaceView) (l : ℕ) → l ≤ 3 → info_depth (info_of_face H f) l ≡ depth_of_face f l
+pub depth_of_info : (H : List ℕ → Hash256) (f : FaceView) (l : ℕ) → l ≤ 3 → info_depth (info_of_face H f) l ≡ depth_of_face f l
 depth_of_info H f = at_levels (λ l. info_depth (info_of_face H f) l ≡ depth_of_face f l) refl refl refl refl
 
-hash_of_info : (H : List ℕ → Hash256) (f : FaceView) (l : ℕ) → l ≤ 3 → info_hash (info_of_face H f) l ≡ hash_of_face H f l
+pub hash_of_info : (H : List ℕ → Hash256) (f : FaceView) (l : ℕ) → l ≤ 3 → info_hash (info_of_face H f) l ≡ hash_of_face H f l
 hash_of_info H f = at_levels (λ l. info_hash (info_of_face H f) l ≡ hash_of_face H f l) refl refl refl refl
 
 module _ (H : List ℕ → Hash256) where

@@ -11,3 +11,9 @@ pub mod ExportOrder
 pub mod BagLaws
 pub mod WellFormedCells
 pub mod ListedTrees
+pub mod UpdateExamples
+pub mod Showing
+pub mod Grafting
+pub mod AppliedUpdates
+pub mod NewCells
+pub mod Wanted

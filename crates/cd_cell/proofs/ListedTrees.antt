@@ -36,7 +36,7 @@ Contains-drop xs zero x h = h
 Contains-drop [] (suc n) x h = h
 Contains-drop (y ∷ ys) (suc n) x h = Contains-later y ys x (Contains-drop ys n x h)
 
-Contains-dropped : {A : Type 0} (xs : List A) (n j : ℕ) (d : A) → n ≤ j → j < length xs → Contains (drop n xs) (get_or xs j d)
+pub Contains-dropped : {A : Type 0} (xs : List A) (n j : ℕ) (d : A) → n ≤ j → j < length xs → Contains (drop n xs) (get_or xs j d)
 Contains-dropped xs zero j d from below = Contains-get_or xs j d below
 Contains-dropped [] (suc n) j d from below = absurd (omega arith)
 Contains-dropped (x ∷ xs) (suc n) zero d from below = absurd (omega arith)
@@ -158,7 +158,7 @@ module _ (H : List ℕ → Hash256) where
       ap₂ tree_and (tree_with-only pool t (there t (Contains-first t (list_of ts))) one) (found_children pool ts (λ c h. there c (Contains-later t (list_of ts) c h)) one)
 
   -- no two of some cells show the same
-  abbrev OneByInfo : List Tree → Type 0
+  abbrev pub OneByInfo : List Tree → Type 0
   OneByInfo pool = (a b : Tree) → Contains pool a → Contains pool b → info_of H a ≡ info_of H b → a ≡ b
 
   -- each child of a listed cell is listed behind it or is an old cell

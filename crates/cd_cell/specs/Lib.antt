@@ -15,3 +15,4 @@ pub mod LevelRecursion
 pub mod GoodFace
 pub mod Bags
 pub mod Listings
+pub mod Updates

@@ -6,6 +6,7 @@ ghost use Rattle.cd_cell.specs.BitText.{data_of};
 ghost use Rattle.cd_cell.specs.Levels.{kind_of_face};
 ghost use Rattle.cd_cell.specs.CellFaults.{refs_fault, bits_fault, states_hash, hash_fault, depth_fault, exotic_fault, form_fault, greatest_depth, fault_of};
 ghost use Rattle.cd_cell.specs.Fit.{IsPrunedFace, IsFaceFit};
+ghost use Rattle.cd_cell.specs.GoodFace.{IsGoodFace};
 ghost use Rattle.std.specs.List.{All};
 ghost use Rattle.cd_base.specs.declared.hash.Hash256.{Hash256};
 ghost use Rattle.cd_cell.specs.Tree.{Tree, children, face_of, IsWellFormed};
@@ -22,6 +23,7 @@ impl Face {
         ensures exact { MatchResult result (λ kind. (fault_of self.now ≡ None) × (kind_of_face self.now ≡ Some kind))
             (λ fault. fault_of self.now ≡ Some fault) }
         ensures fit { IfOk result (λ _. IsFaceFit self.now) }
+        ensures good { IfOk result (λ _. IsGoodFace self.now) }
         ensures tree { (H : List ℕ → Hash256) (t : Tree) → face_of H t ≡ self.now → All (IsWellFormed H) (children t) →
             IsOk result ↔ IsWellFormed H t }
     {
@@ -30,7 +32,7 @@ impl Face {
         if depth > 1024 {
             return Err(CellFault::DepthBig { depth });
         }
-        // That bits and children are few is a part of being well-formed which every face keeps.
+        // Every face keeps that its bits and children are few, which is a part of being well-formed.
         let _kept = (self.bits().len(), self.refs());
         Ok(kind)
     }

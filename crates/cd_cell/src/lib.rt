@@ -13,9 +13,9 @@ mod kind;
 mod levels;
 mod lists;
 mod mask;
-mod pruned;
 mod new_cell;
 mod prepared;
+mod pruned;
 mod put;
 mod shown;
 mod stated;
@@ -30,6 +30,9 @@ pub use info::ChildInfo;
 pub use kind::Kind;
 pub use lists::Listed;
 pub use mask::Mask;
-pub use shown::face_info;
 pub use new_cell::NewCell;
 pub use prepared::Prepared;
+pub use shown::face_info;
+
+#[cfg(test)]
+mod tests;

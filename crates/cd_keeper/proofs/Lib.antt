@@ -1,4 +1,5 @@
 pub mod ChangeLaws
 pub mod KeyLaws
 pub mod TableLaws
+pub mod TrailLaws
 pub mod UndoLaws

@@ -1,7 +1,8 @@
-ghost use Rattle.std.specs.Prelude.{◌≡◌, ◌∷◌, ◌++◌, [], map, OnOk, OnErr};
+ghost use Rattle.std.specs.Prelude.{◌≡◌, ◌∷◌, ◌++◌, [], map, IfOk, OnOk, OnErr};
 ghost use Rattle.cd_keeper.specs.Shown.{entries_of, hash_bytes, desc_bytes};
 ghost use Rattle.cd_keeper.specs.NoKeyTwice.{HasNoKeyTwice, IsNew, cell_keys, desc_keys, change_of};
 
+use crate::table::copy_of;
 use cd_base::{Hash256, Memory};
 use std::alloc::Global;
 use std::marker::Model;
@@ -124,5 +125,17 @@ impl Batch {
         ensures { map desc_bytes result.now ≡ self.now.drop_descs }
     {
         &self.drop_descs
+    }
+
+    /// A copy of the batch.
+    pub(crate) fn copy(&self, alloc: Global) -> Result<Batch, Memory>
+        ensures { IfOk result (λ copy. copy ≡ self.now) }
+    {
+        Ok(Batch {
+            put_cells: copy_of(alloc, &self.put_cells)?,
+            drop_cells: Vec::from_slice(alloc, &self.drop_cells)?,
+            put_descs: copy_of(alloc, &self.put_descs)?,
+            drop_descs: Vec::from_slice(alloc, &self.drop_descs)?,
+        })
     }
 }

@@ -4,6 +4,7 @@
 mod batch;
 mod fault;
 mod keeper;
+mod memory;
 mod steady;
 mod table;
 mod tables;
@@ -11,4 +12,5 @@ mod tables;
 pub use batch::Batch;
 pub use fault::KeepFault;
 pub use keeper::Keeper;
+pub use memory::MemoryKeeper;
 pub use steady::SteadyKeeper;

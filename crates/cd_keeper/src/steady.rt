@@ -1,7 +1,7 @@
 ghost use Rattle.std.specs.Prelude.{◌≡◌, OnOk, OnErr, IsErrOf};
 ghost use Rattle.cd_base.specs.Counts.{one_more};
 ghost use Rattle.cd_keeper.specs.Contents.{no_contents, changed};
-ghost use Rattle.cd_keeper.specs.Memories.{SteadyView, with_cell, with_desc};
+ghost use Rattle.cd_keeper.specs.Memories.{steady_of, with_cell, with_desc};
 
 use crate::batch::Batch;
 use crate::fault::KeepFault;
@@ -32,13 +32,34 @@ impl Model for SteadyKeeper {
 impl SteadyKeeper {
     /// A keeper that holds nothing.
     pub fn new(alloc: Global) -> SteadyKeeper
-        ensures { result ≡ record { contents = no_contents; batches = 0; reads = 0 } }
+        ensures { result ≡ steady_of no_contents }
+    {
+        SteadyKeeper::of_tables(Tables::new(alloc))
+    }
+
+    /// A keeper that holds these tables.
+    pub(crate) fn of_tables(tables: Tables) -> SteadyKeeper
+        ensures { result ≡ steady_of tables }
     {
         SteadyKeeper {
-            tables: Tables::new(alloc),
+            tables,
             batches: 0,
             reads: 0,
         }
+    }
+
+    /// How many batches were applied.
+    pub fn batches(&self) -> u64
+        ensures { result ≡ self.now.batches }
+    {
+        self.batches
+    }
+
+    /// How many reading calls there were.
+    pub fn reads(&self) -> u64
+        ensures { result ≡ self.now.reads }
+    {
+        self.reads
     }
 
     /// Writes any bytes under the hash of a cell. This is no batch; it is meant for tests.

@@ -42,6 +42,7 @@ impl Key for [u8; 80] {
 /// What some puts replaced: the number of each put whose key was there, and the value before.
 pub type Replaced = Vec<(usize, Vec<u8>)>;
 
+/// An ordered map from keys to bytes. Contracts see it as a finite map from bytes to bytes.
 #[derive(Drop)]
 pub struct Table<K: Key> {
     tree: BTreeMap<K, Vec<u8>>,
@@ -60,6 +61,7 @@ impl<K: Key> Model for Table<K> {
 }
 
 impl<K: Key> Table<K> {
+    /// An empty table.
     pub fn new(alloc: Global) -> Table<K>
         ensures { result ≡ finite.empty }
     {
@@ -177,6 +179,17 @@ impl<K: Key> Table<K> {
         let _ = self.tree.len();
         let _ = self.tree.remove(key);
     }
+}
+
+/// A copy of some puts.
+pub fn copy_of<K: Key>(alloc: Global, puts: &[(K, Vec<u8>)]) -> Result<Vec<(K, Vec<u8>)>, Memory>
+    ensures { IfOk result (λ copy. entries_of K.bytes copy.items ≡ entries_of K.bytes puts.now) }
+{
+    let mut copy = Vec::with_capacity(alloc, puts.len())?;
+    for (key, value) in puts {
+        copy.push((*key, Vec::from_slice(alloc, value.as_slice())?))?;
+    }
+    Ok(copy)
 }
 
 fn above<K>(after: Option<K>) -> Bound<K>

@@ -15,6 +15,15 @@ returns-clause-fit c =
     let exact = c.in_ok-kind.ensures.exact in
     IsFaceFit_from c.args.self.now exact.0 (rw (← c.greatest-depth.ensures) c.if-depth-gt1024.false)
 
+pub returns-clause-good : goal.returns-clause-good
+returns-clause-good c =
+    let exact = c.in_ok-kind.ensures.exact in
+    record {
+      bits = omega (arith, c.len.ensures.few, c.len.ensures.value, ap length c.bits.ensures);
+      kids = omega (arith, c.refs.ensures.few, c.refs.ensures.value);
+      fit = IsFaceFit_from c.args.self.now exact.0 (rw (← c.greatest-depth.ensures) c.if-depth-gt1024.false);
+    }
+
 pub returns-clause-tree : goal.returns-clause-tree
 returns-clause-tree c = λ H t is kids.
     let exact = c.in_ok-kind.ensures.exact in

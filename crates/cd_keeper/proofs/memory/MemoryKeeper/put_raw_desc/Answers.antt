@@ -1,0 +1,26 @@
+use Rattle.std.proofs.Common.{◌≡◌, ◌<◌, ◌∷◌, [], ◌++◌, vec_len, vec_capacity, ap, ◌∙◌, refl, arith}
+use Rattle.cd_keeper.specs.Memories.{raw_contents, with_desc}
+use Rattle.cd_keeper.proofs.TrailLaws.{no_changes, raw_contents-push_desc}
+use Rattle.cd_keeper.proofs.memory.MemoryKeeper.put_raw_desc.Goals as goal
+
+-- the pair was added, since there was room
+added : (c : goal.Joined-push) → c.push.new.self.items ≡ c.self.inside.raw_descs.items ++ (c.args.key, c.args.value) ∷ []
+added c =
+    let room : vec_len c.reserve.new.self < vec_capacity c.reserve.new.self = omega (arith, c.in_ok-reserve.ensures.ok) in
+    rw (c.push.ensures.succeeds room) at c.push.ensures.items
+    ∙ ap (λ pairs. pairs ++ (c.args.key, c.args.value) ∷ []) c.in_ok-reserve.ensures.items
+
+-- no batch was applied yet
+none : (c : goal.Joined-push) → c.self.inside.applied.items ≡ []
+none c = no_changes (raw_contents c.self.inside.raw_cells.items c.self.inside.raw_descs.items) c.self.inside.applied.items (ap (λ m. m.trail) c.self.view_is ∙ c.requires)
+
+start : (c : goal.Joined-push) → raw_contents c.self.inside.raw_cells.items c.push.new.self.items ≡ with_desc (raw_contents c.self.inside.raw_cells.items c.self.inside.raw_descs.items) c.args.key c.args.value.items
+start c = rw (added c) (raw_contents-push_desc c.self.inside.raw_cells.items c.self.inside.raw_descs.items c.args.key c.args.value)
+
+pub invariant_of-self-2 : goal.invariant_of-self-2
+invariant_of-self-2 c =
+    rw (start c, none c, c.in_ok-put_desc.ensures.ok, c.self.invariant, none c)
+    (ap (with_desc (raw_contents c.self.inside.raw_cells.items c.self.inside.raw_descs.items) c.args.key) (c.in_ok-copy.ensures.items ∙ c.as_slice.ensures.value))
+
+pub returns-clause-ok : goal.returns-clause-ok
+returns-clause-ok c = rw (← c.self.view_is, start c, none c) refl

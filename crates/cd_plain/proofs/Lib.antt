@@ -1,0 +1,5 @@
+pub mod TextParts
+pub mod TextLoop
+pub mod FaceLoop
+pub mod BagMade
+pub mod ClearLaws

@@ -1,0 +1,2 @@
+pub mod PlainBags
+pub mod Views
