@@ -139,11 +139,3 @@ module _ (H : List ℕ → Hash256) where
               subst IsGoodFace (sym (get_or-set_at faces i k face no_face (omega (arith, from, early)) (omega (arith, so_far.long_faces, below)))) good)
               (cases_lt i k);
         }
-
-  pub filled_all : (es : List Entry) (left : ℕ) (faces : List FaceView) (infos : List ChildInfo) → AreFilled es left faces infos → left ≤ 0 → (faces ≡ faces_from H 0 es) × (infos ≡ infos_from H 0 es) × ((k : ℕ) → k < length faces → IsGoodFace (face_at faces k))
-  filled_all es left faces infos so_far end =
-      let zero : left ≡ 0 = omega arith in (
-        ap (λ n. drop n faces) (sym zero) ∙ so_far.faces_are ∙ ap (λ n. faces_from H n (drop n es)) zero,
-        ap (λ n. drop n infos) (sym zero) ∙ so_far.infos_are ∙ ap (λ n. infos_from H n (drop n es)) zero,
-        λ k in'. so_far.good k (omega arith) (omega (arith, in', so_far.long_faces)),
-      )

@@ -1,5 +1,5 @@
 -- Texts read one behind another, as a loop does.
-use Rattle.std.proofs.Common.{◌≡◌, ℕ, ◌+◌, ◌<◌, ◌≤◌, List, [], ◌∷◌, ◌++◌, length, get_or, refl, sym, ap, subst, ◌∙◌, append_assoc, length-append, arith, ⊎_elim}
+use Rattle.std.proofs.Common.{◌≡◌, ℕ, ◌+◌, ◌<◌, List, [], ◌∷◌, ◌++◌, length, get_or, sym, ap, subst, ◌∙◌, append_assoc, length-append, arith, ⊎_elim}
 use Rattle.std.proofs.lemmas.Bool.{cases_lt}
 use Rattle.std.proofs.lemmas.List.{append-nil, get_or_at, get_or_append_left, length_push}
 use Rattle.std.proofs.lemmas.List.Concat.{flat_map-append, flat_map-cons}
@@ -26,10 +26,6 @@ next_of cells number es got (e ∷ more) rest counted below all plain parts text
       plain = subst (IsPlainCell cells number) at (subst (λ n. IsPlainCell n number (get_or es number e)) all (plain number e (omega arith)));
     }
 
-none_left : (cells : ℕ) (es got more : List Entry) (rest : List ℕ) → length got ≡ cells → length es ≡ cells → es ≡ got ++ more → rest ≡ texts_of more → (got ≡ es) × (rest ≡ [])
-none_left cells es got [] rest counted all parts text = (sym (append-nil got) ∙ sym parts, text)
-none_left cells es got (e ∷ more) rest counted all parts text = absurd (omega (arith, ap length parts, length-append got (e ∷ more)))
-
 module _ (cells : ℕ) (bytes : List ℕ) where
   -- so many texts were read, as any reading of all of them has them
   pub record AreTextsRead (number : ℕ) (got : List Entry) (rest : List ℕ) : Type 0 where
@@ -37,9 +33,6 @@ module _ (cells : ℕ) (bytes : List ℕ) where
     pub plain : (k : ℕ) (d : Entry) → k < number → IsPlainCell cells k (get_or got k d)
     pub taken : bytes ≡ texts_of got ++ rest
     pub only : (es : List Entry) → ArePlainCells es → length es ≡ cells → bytes ≡ texts_of es → (more : List Entry) × (es ≡ got ++ more) × (rest ≡ texts_of more)
-
-  pub texts_none : AreTextsRead 0 [] bytes
-  texts_none = record { counted = refl; plain = λ k d below. absurd (omega (arith, below)); taken = refl; only = λ es plain all is. (es, refl, is) }
 
   module _ (number : ℕ) (got : List Entry) (rest : List ℕ) (so_far : AreTextsRead number got rest) where
     pub texts_next : number < cells → (es : List Entry) → ArePlainCells es → length es ≡ cells → bytes ≡ texts_of es → Next cells number es got rest
@@ -76,13 +69,3 @@ module _ (cells : ℕ) (bytes : List ℕ) where
                 one.1,
               );
         }
-
-    pub texts_all : cells ≤ number → number ≤ cells → (es : List Entry) → ArePlainCells es → length es ≡ cells → bytes ≡ texts_of es → (got ≡ es) × (rest ≡ [])
-    texts_all whole most es plain all is =
-        let left = so_far.only es plain all is in
-        none_left cells es got left.0 rest (omega (arith, so_far.counted)) all left.1 left.2
-
-    pub texts_plain : cells ≤ number → number ≤ cells → ArePlainCells got
-    texts_plain whole most k d in' =
-        let same : cells ≡ length got = omega (arith, so_far.counted) in
-        subst (λ n. IsPlainCell n k (get_or got k d)) same (so_far.plain k d (omega (arith, so_far.counted)))
