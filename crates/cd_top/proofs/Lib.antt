@@ -2,3 +2,4 @@ pub mod Hashes
 pub mod OwnerLaws
 pub mod HeldLaws
 pub mod Lift
+pub mod OnceLaws

@@ -3,3 +3,4 @@ pub mod Owners
 pub mod Held
 pub mod StatusText
 pub mod Zero
+pub mod ZeroCall

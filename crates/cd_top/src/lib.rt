@@ -4,6 +4,7 @@
 mod collect;
 mod count;
 mod held;
+mod once;
 mod records;
 mod status;
 mod zero;
