@@ -1,5 +1,5 @@
 -- The two halves of a shard, and the shard that they are halves of.
-use Rattle.std.proofs.Common.{◌⊎◌, ◌≡◌, ◌≢◌, ℕ, zero, suc, ◌+◌, ◌-◌, ◌*◌, ◌/◌, ◌%◌, ◌^◌, ◌<◌, ◌≤◌, ◌&&◌, Bool, true, false, eqb, List, [], ◌∷◌, length, Option, Some, None, refl, sym, ap, subst, ◌∙◌, arith, inl, inr}
+use Rattle.std.proofs.Common.{◌⊎◌, ◌≡◌, ◌≢◌, ℕ, zero, suc, ◌+◌, ◌*◌, ◌/◌, ◌%◌, ◌^◌, ◌<◌, ◌&&◌, Bool, true, false, eqb, List, [], length, Option, Some, None, refl, sym, ap, subst, ◌∙◌, arith, inl, inr}
 use Rattle.std.specs.Prelude.{nat_eq, IsTrue, IfSome, bit_or, ℤ}
 use Rattle.std.specs.Option.{option_eq}
 use Rattle.std.specs.Ordering.{int_eq}
@@ -8,11 +8,11 @@ use Rattle.cd_block.specs.declared.shard.ShardId.{ShardId}
 use Rattle.cd_block.proofs.Options.{some_is}
 use Rattle.std.specs.Int.Count.{count_trailing_zeros}
 use Rattle.std.specs.List.{starts_with}
-use Rattle.std.proofs.lemmas.Bool.{cases_lt, cases_eq, and_parts, eqb-true}
-use Rattle.std.proofs.lemmas.Nat.{pow_pos, pow-add, shl_below, or_block}
+use Rattle.std.proofs.lemmas.Bool.{cases_lt, and_parts, eqb-true}
+use Rattle.std.proofs.lemmas.Nat.{pow_pos, shl_below, or_block}
 use Rattle.std.specs.Int.Bits.{or_zero_r}
 use Rattle.std.proofs.Math.Nat.{mod-eq_of_lt, mul-div_cancel, pow-suc}
-use Rattle.cd_block.specs.Shard.{low_bits, prefix_within, prefix_of, is_longer_by_one, is_child_of}
+use Rattle.cd_block.specs.Shard.{low_bits, prefix_of, is_longer_by_one, is_child_of}
 use Rattle.cd_block.proofs.Prefixes.{bits_above, IsTagged, IsTagged-odd, IsTagged-even, IsTagged-at, length-low_bits, starts-longer, same_eqb, other_eqb, without_tag}
 
 -- the number of some bits, the tag, and zeros

@@ -1,16 +1,16 @@
 -- The prefixes of shard numbers, by division.
-use Rattle.std.proofs.Common.{max, ◌⊎◌, ◌≡◌, ◌≢◌, ℕ, zero, suc, ◌+◌, ◌-◌, ◌*◌, ◌/◌, ◌%◌, ◌^◌, ◌<◌, ◌≤◌, ◌&&◌, ◌||◌, Bool, true, false, cond, eqb, List, [], ◌∷◌, length, take, Option, Some, None, refl, sym, ap, subst, ◌∙◌, arith, inl, inr}
-use Rattle.std.specs.Prelude.{nat_eq, IsTrue}
+use Rattle.std.proofs.Common.{max, ◌⊎◌, ◌≡◌, ◌≢◌, ℕ, zero, suc, ◌+◌, ◌-◌, ◌*◌, ◌/◌, ◌%◌, ◌^◌, ◌<◌, ◌≤◌, ◌&&◌, ◌||◌, Bool, true, false, eqb, List, length, take, Option, Some, None, refl, sym, ap, subst, ◌∙◌, arith, inl, inr}
+use Rattle.std.specs.Prelude.{nat_eq}
 use Rattle.std.specs.Int.{bit_at}
 use Rattle.std.specs.Int.Count.{count_trailing_zeros, under}
 use Rattle.std.specs.List.{starts_with}
 use lib.Pointwise.{pointwise, pointwise_long}
 use Rattle.std.proofs.lemmas.List.{length-take}
-use Rattle.std.proofs.lemmas.Bool.{cases_lt, cases_eq, and_parts, eqb-true}
+use Rattle.std.proofs.lemmas.Bool.{cases_lt, cases_eq, eqb-true}
 use Rattle.std.proofs.lemmas.Bool.Decides.{nat_tests}
-use Rattle.std.proofs.lemmas.Nat.{mod_below, div-add-mod', mod-mul-add, div-mul-add, mul-add-lt, same_from_place, pow_pos, mod-pow-add, pow-add, shr_below}
+use Rattle.std.proofs.lemmas.Nat.{mod_below, same_from_place, pow_pos, mod-pow-add, pow-add, shr_below}
 use Rattle.std.proofs.Math.Nat.{mod-eq_of_lt, mul_comm, pow-suc, pow-succ', div-div-eq-div-mul}
-use Rattle.cd_block.specs.Shard.{low_bits, prefix_within, prefix_of, is_either_prefix, is_longer_by_one}
+use Rattle.cd_block.specs.Shard.{low_bits, prefix_within, prefix_of, is_either_prefix}
 
 pub length-low_bits : (n number : ℕ) → length (low_bits n number) ≡ n
 unfolding low_bits

@@ -23,7 +23,9 @@ pub enum LineageFault {
 /// The shard is looked at first. Two parents are refused as `Shard`.
 #[tactic(auto, unfolding(crate::specs::Lineage::lineage_fault))]
 pub fn lineage(id: &BlockId, parents: &[BlockId]) -> Result<(), LineageFault>
-    ensures { MatchResult result (λ _. lineage_fault id.now parents.now ≡ None) (λ fault. lineage_fault id.now parents.now ≡ Some fault) }
+    ensures { MatchResult result
+        (λ _. lineage_fault id.now parents.now ≡ None)
+        (λ fault. lineage_fault id.now parents.now ≡ Some fault) }
 {
     let shard = &id.shard_id;
     match parents {
@@ -38,7 +40,9 @@ pub fn lineage(id: &BlockId, parents: &[BlockId]) -> Result<(), LineageFault>
 
 #[tactic(auto, unfolding(crate::specs::Lineage::fault_by))]
 fn judged(shard_fits: bool, stated: u32, due: u64) -> Result<(), LineageFault>
-    ensures { MatchResult result (λ _. spec.fault_by shard_fits stated due ≡ None) (λ fault. spec.fault_by shard_fits stated due ≡ Some fault) }
+    ensures { MatchResult result
+        (λ _. spec.fault_by shard_fits stated due ≡ None)
+        (λ fault. spec.fault_by shard_fits stated due ≡ Some fault) }
 {
     if !shard_fits {
         return Err(LineageFault::Shard);

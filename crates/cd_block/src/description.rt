@@ -31,18 +31,21 @@ impl BlockIds {
         }
     }
 
+    /// The ids as a slice.
     pub fn as_slice(&self) -> &[BlockId]
         ensures { result.now ≡ self.now }
     {
         self.ids.as_slice()
     }
 
+    /// How many ids there are.
     pub fn len(&self) -> usize
         ensures { result ≡ length self.now }
     {
         self.ids.len()
     }
 
+    /// Whether there is no id.
     pub fn is_empty(&self) -> bool
         ensures { result ≡ (length self.now == 0) }
     {

@@ -102,7 +102,8 @@ fn descr_in(alloc: Global, key: &[u8; 80], value: &[u8]) -> Result<Descr, DescrF
 /// Reads what the store has of a block under its key. Takes memory for the lists of parents and tops alone.
 pub fn decode_descr(alloc: Global, key: &[u8; 80], value: &[u8]) -> Result<Descr, DescrFault>
     // What is read is spelled so.
-    ensures found { IfOk result (λ descr. IsDescr descr × IsDescrFit descr × (key.now ≡ key_of descr.id) × (value.now ≡ descr_text descr)) }
+    ensures found { IfOk result (λ descr. IsDescr descr × IsDescrFit descr
+        × (key.now ≡ key_of descr.id) × (value.now ≡ descr_text descr)) }
 
     // What is spelled so is read, unless memory runs out.
     ensures only { (descr : Descr) → IsDescr descr → IsDescrFit descr → key.now ≡ key_of descr.id

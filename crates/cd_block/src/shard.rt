@@ -3,7 +3,8 @@ ghost use Rattle.std.proofs.Common.{rules};
 ghost use Rattle.std.specs.Cmp.{partial_order_from_own_ties};
 ghost use Rattle.std.specs.Cmp.Rules.{comparing};
 ghost use Rattle.std.specs.Ordering.{as_partial_cmp};
-ghost use Rattle.cd_block.specs.Shard.{shard_cmp, prefix_of, is_either_prefix, is_longer_by_one, is_master, meets, is_child_of};
+ghost use Rattle.cd_block.specs.Shard.{shard_cmp, prefix_of, is_either_prefix, is_longer_by_one};
+ghost use Rattle.cd_block.specs.Shard.{is_master, meets, is_child_of};
 ghost use Rattle.cd_block.specs.declared.shard.ShardId.{ShardId};
 ghost use Rattle.cd_block.specs.Block.{IsShardId};
 
@@ -34,7 +35,8 @@ impl ShardId {
     pub fn parent(&self) -> Option<ShardId>
         ensures none { IsNone result ↔ ((self.now.shard ≡ 0) ⊎ (self.now.shard ≡ 0x8000000000000000)) }
         ensures child { IfSome result (λ parent. IsTrue (is_child_of self.now parent)) }
-        ensures only { (parent : ShardId) → IsShardId parent → IsTrue (is_child_of self.now parent) → result ≡ Some parent }
+        ensures only { (parent : ShardId) → IsShardId parent
+            → IsTrue (is_child_of self.now parent) → result ≡ Some parent }
     {
         let shard = parent_number(self.shard)?;
         Some(ShardId {
@@ -103,8 +105,10 @@ fn share_prefix(a: u64, b: u64) -> bool
 /// The shard number whose prefix has one bit less.
 fn parent_number(shard: u64) -> Option<u64>
     ensures none { IsNone result ↔ ((shard ≡ 0) ⊎ (shard ≡ 0x8000000000000000)) }
-    ensures child { IfSome result (λ parent. IsTrue (is_longer_by_one (prefix_of parent) (prefix_of shard))) }
-    ensures only { (parent : ℕ) → parent < 2 ^ 64 → IsTrue (is_longer_by_one (prefix_of parent) (prefix_of shard)) → result ≡ Some parent }
+    ensures child { IfSome result (λ parent.
+        IsTrue (is_longer_by_one (prefix_of parent) (prefix_of shard))) }
+    ensures only { (parent : ℕ) → parent < 2 ^ 64
+        → IsTrue (is_longer_by_one (prefix_of parent) (prefix_of shard)) → result ≡ Some parent }
 {
     if shard == 0 || shard == 0x8000_0000_0000_0000 {
         return None;

@@ -1,23 +1,40 @@
 -- Laws of bags: what a bag keeps, by its entries and their unfoldings, and how it follows from filled lists.
-use Rattle.std.proofs.Common.{◌≡◌, ℕ, zero, suc, ◌+◌, ◌<◌, ◌≤◌, List, [], ◌∷◌, length, get_or, take, drop, map, slice_index, Contains, flat_map, refl, ap, ap₂, sym, ◌∙◌, subst, ⊎_elim, length-take-le, get_or-take, add-zero, arith}
+use Rattle.std.proofs.Common.{All, Bool, IsTrue, ◌↔◌, ◌≡◌, ℕ, zero, suc, ◌+◌, ◌<◌, ◌≤◌, List, [], ◌∷◌, length, get_or, take, drop, map, slice_index, Contains, flat_map, refl, ap, ap₂, sym, ◌∙◌, subst, ⊎_elim, length-take-le, get_or-take, add-zero, arith}
 use Rattle.std.proofs.lemmas.List.{length-map, get_or-map, get_or_default, drop_more, drop_all, drop-map, same_lists, get_or_past}
 use Rattle.std.proofs.lemmas.Bool.{cases_lt}
+use Rattle.std.proofs.lemmas.List.Elements.{Contains-get_or}
 use Rattle.cd_base.specs.declared.hash.Hash256.{Hash256}
 use Rattle.cd_cell.specs.declared.info.ChildInfo.{ChildInfo}
 use Rattle.cd_cell.specs.FaceView.{FaceView}
-use Rattle.cd_cell.specs.Levels.{info_of_face, rep_of_face}
+use Rattle.cd_cell.specs.Levels.{plain_depth, depth_of_face, info_of_face, rep_of_face}
 use Rattle.cd_cell.specs.Infos.{rep_of_info}
 use Rattle.cd_cell.specs.CellFaults.{kid_at, no_info}
-use Rattle.cd_cell.specs.Tree.{Tree, children, subtrees, info_of, face_of, rep_of, IsWellFormed}
+use Rattle.cd_cell.specs.Tree.{Tree, children, subtrees, info_of, face_of, rep_of, height_of, IsWellFormed}
 use Rattle.cd_cell.specs.Unfolding.{Entry, no_tree, behind, tree_of_entry, unfold_from, unfolding_of, AreLater, face_of_entry, infos_from, faces_from}
 use Rattle.cd_cell.specs.Export.{AreClashFree}
 use Rattle.cd_cell.specs.GoodFace.{IsGoodFace}
 use Rattle.cd_cell.specs.Bags.{no_face, face_at, ref_at, entry_of, entries_of, bag_trees, IsBag}
-use Rattle.cd_cell.proofs.Subtrees.{info_of-face_of, list_of-trees_of, Contains-map, subtrees-cases, flat_map-cases, IsWellFormed-from}
+use Rattle.cd_cell.proofs.Heights.{height_of-child}
+use Rattle.cd_cell.proofs.LevelRecursions.{at_levels}
+use Rattle.cd_cell.proofs.Subtrees.{Contains-first, Contains-later, Contains-cases, Contains-nil, Contains-mapped, subtree-itself, flat_map-listed, same_subtrees, info_of-face_of, list_of-trees_of, Contains-map, subtrees-cases, flat_map-cases, IsWellFormed-from}
 use Rattle.cd_cell.proofs.Unfoldings.{get_or-mapped, faces_from-is, infos_from-faces, behind-drop, unfolding_of-is, length-unfold_from, faces_from-end, faces_from-cons, faces_from-at, length-infos_from, length-faces_from}
 
 abbrev no_entry : Entry
 no_entry = entry_of no_face []
+
+-- ---- the empty cell
+
+no_depth : (l : ℕ) → l ≤ 3 → depth_of_face no_face l ≡ 0
+unfolding plain_depth
+no_depth = at_levels (λ l. depth_of_face no_face l ≡ 0) refl refl refl refl
+
+pub IsGoodFace-no_face : IsGoodFace no_face
+IsGoodFace-no_face =
+    record {
+      bits = omega arith;
+      kids = omega arith;
+      fit = record { known = λ e. cc e; pruned = λ e. absurd (cc e); library = λ e. absurd (cc e); proof = λ e. absurd (cc e); update = λ e. absurd (cc e); depths = λ l low. omega (arith, no_depth l low) };
+    }
 
 -- ---- entries by faces and numbers
 
@@ -191,6 +208,44 @@ module _ (H : List ℕ → Hash256) (cells : List FaceView) (refs : List (List �
       let rep_y : rep_of_face H (face_at cells y.0) ≡ rep_of H b = sym (ap rep_of_info (info_of-bag y.0)) ∙ ap (rep_of H) y.2 in
       let faces = bag.clear x.0 y.0 x.1 y.1 (rep_x ∙ rep ∙ sym rep_y) in
       ap (face_of H) (sym x.2) ∙ face_of-bag x.0 ∙ faces ∙ sym (face_of-bag y.0) ∙ ap (face_of H) y.2
+
+  -- entries of one rep are one cell
+  pub same-bag : (a b : ℕ) → a < length cells → b < length cells → rep_of H (unfolding_of entries a) ≡ rep_of H (unfolding_of entries b) → unfolding_of entries a ≡ unfolding_of entries b
+  same-bag a b in-a in-b rep =
+      let x = unfolding_of entries a in
+      let y = unfolding_of entries b in
+      let both = x ∷ y ∷ [] in
+      let entry : (t : Tree) → Contains both t → (k : ℕ) × (k < length cells) × (unfolding_of entries k ≡ t) =
+      λ t h.
+      ⊎_elim
+      (λ same. (a, in-a, same))
+      (λ later. ⊎_elim (λ same. (b, in-b, same)) (λ none. absurd (Contains-nil t none)) (Contains-cases y [] t later))
+      (Contains-cases x (y ∷ []) t h)
+      in
+      same_subtrees H both (clash_free-bag both entry) x y
+      (flat_map-listed both x x (Contains-first x (y ∷ [])) (subtree-itself x))
+      (flat_map-listed both y y (Contains-later x (y ∷ []) y (Contains-first y [])) (subtree-itself y))
+      rep
+
+  -- a test of two faces tells whether their entries are one cell, and whether their reps are equal
+  pub told-bag : (a b : ℕ) (f e : FaceView) (told : Bool) → a < length cells → b < length cells → face_of H (unfolding_of entries a) ≡ f → face_of H (unfolding_of entries b) ≡ e → IsTrue told ↔ (f ≡ e) → (IsTrue told ↔ (unfolding_of entries a ≡ unfolding_of entries b)) × (IsTrue told ↔ (rep_of H (unfolding_of entries a) ≡ rep_of H (unfolding_of entries b)))
+  told-bag a b f e told in-a in-b of-a of-b test =
+      let x = unfolding_of entries a in
+      let y = unfolding_of entries b in
+      let reps : IsTrue told → rep_of H x ≡ rep_of H y =
+      λ h. ap rep_of_info (info_of-face_of H x ∙ ap (info_of_face H) (of-a ∙ test.0 h ∙ sym of-b) ∙ sym (info_of-face_of H y))
+      in
+      let true_at : x ≡ y → IsTrue told = λ same. test.1 (sym of-a ∙ ap (face_of H) same ∙ of-b) in
+      ((λ h. same-bag a b in-a in-b (reps h), true_at), (reps, λ rep. true_at (same-bag a b in-a in-b rep)))
+
+  -- the cells of an entry's children are lower
+  pub lower-bag : (k : ℕ) → k < length cells → All (λ r. height_of H (unfolding_of entries r) < height_of H (unfolding_of entries k)) (take (length (face_at cells k).kids) (four k))
+  lower-bag k in' =
+      let numbers = take (length (face_at cells k).kids) (four k) in
+      λ p d in-numbers.
+      let r = get_or numbers p d in
+      let child = subst (λ cs. Contains cs (unfolding_of entries r)) (sym (children-bag k in')) (Contains-mapped (unfolding_of entries) numbers r (Contains-get_or numbers p d in-numbers)) in
+      height_of-child H (unfolding_of entries k) (unfolding_of entries r) (well_formed-bag k in') child
 
   root-entry : (t : Tree) → Contains (bag_trees cells refs roots) t → (k : ℕ) × (k < length cells) × (unfolding_of entries k ≡ t)
   root-entry t h =

@@ -28,6 +28,10 @@ entries_of [] rs = []
 entries_of (f ∷ fs) [] = []
 entries_of (f ∷ fs) (r ∷ rs) = entry_of f r ∷ entries_of fs rs
 
+-- the cell of an entry, with the cells below it
+abbrev pub bag_cell : List FaceView → List (List ℕ) → ℕ → Tree
+bag_cell cells refs number = unfolding_of (entries_of cells refs) number
+
 -- the trees of the roots
 abbrev pub bag_trees : List FaceView → List (List ℕ) → List ℕ → List Tree
 bag_trees cells refs roots = map (unfolding_of (entries_of cells refs)) roots

@@ -67,10 +67,6 @@ same_face-Decides a b =
     )
 
 -- a result that is the test tells equality
-pub iff_from_same_bits : (r : Bool) (a b : List Bool) → r ≡ same_bits a b → IsTrue r ↔ (a ≡ b)
-iff_from_same_bits r a b is =
-    let same = same_bits-Decides a b in (λ h. same.0 (sym is ∙ h), λ h. is ∙ same.1 h)
-
 pub iff_from_same_face : (r : Bool) (a b : FaceView) → r ≡ same_face a b → IsTrue r ↔ (a ≡ b)
 iff_from_same_face r a b is =
     let same = same_face-Decides a b in (λ h. same.0 (sym is ∙ h), λ h. is ∙ same.1 h)

@@ -28,7 +28,8 @@ impl Model for Bits {
 }
 
 impl Bits {
-    /// The first `len` bits of the bytes, the highest bit of each byte first.
+    /// The first `len` bits of the bytes, the highest bit of each byte first; `None` where the bytes have fewer, or
+    /// `len` is over 1023.
     pub fn from_slice(bytes: &[u8], len: u16) -> Option<Bits>
         ensures found { IsSome result ↔ ((len ≤ 1023) × (len ≤ 8 * length bytes.now)) }
         ensures value { IfSome result (λ bits. bits ≡ first_bits len bytes.now) }
@@ -46,7 +47,8 @@ impl Bits {
     }
 
     /// The bits whose data are these bytes: all bits of the bytes where they are whole, else those before the
-    /// lowest set bit of the last byte.
+    /// lowest set bit of the last byte. `None` where no bits have these data: there are too many bytes, or the last
+    /// byte, not whole, is missing, 00 or 80.
     pub fn from_data(bytes: &[u8], whole: bool) -> Option<Bits>
         ensures found { IsSome result ↔ IsBitData whole bytes.now }
         ensures value { IfSome result (λ bits. data_of bits ≡ bytes.now) }
@@ -80,7 +82,7 @@ impl Bits {
         self.len
     }
 
-    /// The bit in a place, counted from 0.
+    /// The bit in a place, counted from 0; `None` where there is none.
     pub fn bit(&self, at: u16) -> Option<bool>
         ensures { result ≡ slice_get self.now at }
     {

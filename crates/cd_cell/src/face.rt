@@ -75,7 +75,7 @@ impl Face {
         &self.kids[..self.refs as usize]
     }
 
-    /// What the child in a place shows of itself.
+    /// What the child in a place shows of itself; `None` where there is none.
     pub fn child(&self, place: u8) -> Option<&ChildInfo>
         ensures value { option_copied result ≡ slice_get self.now.kids place }
         ensures found { IsSome result ↔ (place < length self.now.kids) }

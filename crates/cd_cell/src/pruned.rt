@@ -45,7 +45,7 @@ pub fn pruned_depths(face: &Face) -> [u16; 4]
     ]
 }
 
-// The mask that a pruned branch states.
+/// The mask that a pruned branch states.
 pub fn pruned_mask(face: &Face) -> Mask
     requires kind { kind_of_face face.now ≡ Some Pruned }
     requires fit { IsPrunedFace face.now }

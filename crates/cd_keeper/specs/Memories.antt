@@ -1,8 +1,11 @@
 -- Keepers in memory, as contracts see them.
-use Rattle.std.specs.Prelude.{ℕ, List, [], ◌∷◌, Vec, fold, refl}
+use Rattle.std.specs.Prelude.{◌≡◌, ◌↔◌, ℕ, List, [], ◌∷◌, Vec, Result, Ok, Err, IsErrOf, Contains, fold, refl}
 use Rattle.std.specs.Global.{Global}
 use Rattle.std.specs.Coded.{Coded, coded_ℕ, coded_list, coded×, code_by}
 use Rattle.std.specs.FinMap as finite
+use Rattle.cd_base.specs.Counts.{one_more}
+use Rattle.cd_keeper.specs.declared.fault.KeepFault.{KeepFault}
+use Rattle.cd_keeper.specs.declared.fault.KeepFault.TheVariants.{Failed, Memory}
 use Rattle.cd_base.specs.declared.hash.Hash256.{Hash256}
 use Rattle.cd_keeper.specs.Contents.{Contents, Change, coded_contents, put_all, changed}
 use Rattle.cd_keeper.specs.Shown.{entries_of, hash_bytes, desc_bytes}
@@ -56,6 +59,17 @@ with_cell contents key value = record contents { cells = finite.insert contents.
 
 abbrev pub with_desc : Contents → List ℕ → List ℕ → Contents
 with_desc contents key value = record contents { descs = finite.insert contents.descs key value }
+
+-- the count of faults after a call with this result
+abbrev pub faults_after : {T : Type 0} → ℕ → Result T KeepFault → ℕ
+faults_after faults (Ok x) = faults
+faults_after faults (Err Failed) = one_more faults
+faults_after faults (Err Memory) = faults
+
+-- a reading call, which fails exactly where its number is among those that fail
+pub record IsRead {T : Type 0} (old new : MemoryView) (result : Result T KeepFault) : Type 0 where
+  pub fails : IsErrOf result Failed ↔ Contains old.fails old.calls
+  pub counted : new ≡ record old { calls = one_more old.calls; faults = faults_after old.faults result; reads = one_more old.reads }
 
 -- a keeper that never fails and was just made with these contents
 abbrev pub steady_of : Contents → SteadyView

@@ -8,6 +8,8 @@ mod memory;
 mod steady;
 mod table;
 mod tables;
+#[cfg(test)]
+mod tests;
 
 pub use batch::Batch;
 pub use fault::KeepFault;

@@ -3,7 +3,9 @@ ghost use Rattle.std.specs.Option.{option_map};
 ghost use Rattle.std.specs.FinMap as finite;
 ghost use Rattle.cd_base.specs.Counts.{one_more};
 ghost use Rattle.cd_keeper.specs.Contents.{no_contents, changed, next_entry, is_above};
-ghost use Rattle.cd_keeper.specs.Memories.{held_by, steady_of, with_cell, with_desc};
+ghost use Rattle.cd_keeper.specs.Shown.{entry_of, hash_bytes, desc_bytes};
+ghost use Rattle.cd_keeper.specs.Keeping.{IsApplied};
+ghost use Rattle.cd_keeper.specs.Memories.{held_by, steady_of, faults_after, IsRead, with_cell, with_desc};
 
 use crate::batch::Batch;
 use crate::fault::KeepFault;
@@ -195,20 +197,31 @@ impl Keeper for MemoryKeeper {
 
     ghost reads = { λ keeper. keeper.reads };
 
-    fn get_cell(&mut self, key: &Hash256) -> Result<Option<Vec<u8>>, KeepFault> {
+    fn get_cell(&mut self, key: &Hash256) -> Result<Option<Vec<u8>>, KeepFault>
+        ensures value { IfOk result (λ found. option_map (λ record_bytes. record_bytes.items) found
+            ≡ finite.get (held_by self.old).cells key.now.0) }
+        ensures read { IsRead self.old self.new result }
+    {
         self.begin_read()?;
         Ok(self.tables().get_cell(key)?)
     }
 
-    fn next_cell(
-        &mut self,
-        after: Option<Hash256>,
-    ) -> Result<Option<(Hash256, Vec<u8>)>, KeepFault> {
+    fn next_cell(&mut self, after: Option<Hash256>) -> Result<Option<(Hash256, Vec<u8>)>, KeepFault>
+        ensures value { IfOk result (λ found. option_map (entry_of hash_bytes) found
+            ≡ next_entry (held_by self.old).cells (option_map hash_bytes after)) }
+        ensures above { IfOk result (λ found. IfSome found
+            (λ entry. IsTrue (is_above (option_map hash_bytes after) entry.0.0))) }
+        ensures read { IsRead self.old self.new result }
+    {
         self.begin_read()?;
         Ok(self.tables().next_cell(after)?)
     }
 
-    fn get_desc(&mut self, key: &[u8; 80]) -> Result<Option<Vec<u8>>, KeepFault> {
+    fn get_desc(&mut self, key: &[u8; 80]) -> Result<Option<Vec<u8>>, KeepFault>
+        ensures value { IfOk result (λ found. option_map (λ description. description.items) found
+            ≡ finite.get (held_by self.old).descs key.now) }
+        ensures read { IsRead self.old self.new result }
+    {
         self.begin_read()?;
         Ok(self.tables().get_desc(key)?)
     }
@@ -216,12 +229,29 @@ impl Keeper for MemoryKeeper {
     fn next_desc(
         &mut self,
         after: Option<[u8; 80]>,
-    ) -> Result<Option<([u8; 80], Vec<u8>)>, KeepFault> {
+    ) -> Result<Option<([u8; 80], Vec<u8>)>, KeepFault>
+        ensures value { IfOk result (λ found. option_map (entry_of desc_bytes) found
+            ≡ next_entry (held_by self.old).descs after) }
+        ensures above { IfOk result (λ found. IfSome found (λ entry. IsTrue (is_above after entry.0))) }
+        ensures read { IsRead self.old self.new result }
+    {
         self.begin_read()?;
         Ok(self.tables().next_desc(after)?)
     }
 
-    fn apply(&mut self, batch: &Batch) -> Result<(), KeepFault> {
+    fn apply(&mut self, batch: &Batch) -> Result<(), KeepFault>
+        ensures fails { IsErrOf result KeepFault.Failed ↔ Contains self.old.fails self.old.calls }
+        ensures added { OnOk result (self.new ≡ record self.old {
+          trail = self.old.trail ++ changed batch.now (held_by self.old) ∷ [];
+          calls = one_more self.old.calls;
+        }) }
+        ensures kept { OnErr result (self.new ≡ record self.old {
+          calls = one_more self.old.calls;
+          faults = faults_after self.old.faults result;
+        }) }
+        ensures done { OnOk result (IsApplied (λ k. Some (held_by k)) (λ k. Some k.trail)
+            (λ k. length k.trail) batch.now self.old self.new) }
+    {
         self.begin_call()?;
         Ok(self.add(batch)?)
     }

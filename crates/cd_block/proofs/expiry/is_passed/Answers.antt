@@ -1,5 +1,5 @@
-use Rattle.std.proofs.Common.{sym, ap, ◌∙◌}
-use Rattle.cd_block.proofs.Passing.{passed_from, from_start, meets_younger, passes_by, meets_older, at_end}
+use Rattle.std.proofs.Common.{sym, ◌∙◌}
+use Rattle.cd_block.proofs.Passing.{from_start, meets_younger, passes_by, meets_older, at_end}
 use Rattle.cd_block.proofs.expiry.is_passed.Goals as goal
 use Rattle.cd_block.proofs.expiry.is_passed.Goals.{then-meets+else-id-top, else-meets}
 

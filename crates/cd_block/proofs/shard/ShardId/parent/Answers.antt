@@ -1,4 +1,4 @@
-use Rattle.std.proofs.Common.{◌≡◌, FitsSigned, w32, rules, ap, sym, Some, None, ◌∙◌}
+use Rattle.std.proofs.Common.{FitsSigned, w32, rules}
 use Rattle.std.proofs.lemmas.Int.{to_z-of_z}
 use Rattle.cd_block.proofs.Halves.{is_child_of-made, is_child_of-parts, same_parent}
 use Rattle.cd_block.proofs.shard.ShardId.parent.Goals as goal
