@@ -46,8 +46,10 @@ module _ (H : List ℕ → Hash256) (cells : List FaceView) (refs : List (List �
     where
       in_counts : owner < length counts
       in_counts = omega (arith, are.within kid owner kept_kid, long)
+
       decides : (bytes_eq kid.0 hash.0 ≡ true → kid.0 ≡ hash.0) × (kid.0 ≡ hash.0 → bytes_eq kid.0 hash.0 ≡ true)
       decides = let d = bytes_eq-Decides kid.0 hash.0 in (d.0, d.1)
+
       by : (b : Bool) → bytes_eq kid.0 hash.0 ≡ b → get_or (set counts owner (get_or counts owner 0 + 1)) o 0 ≡ get_or counts o 0 + cond b 1 0
       by true e =
           let bytes = decides.0 e in
@@ -56,8 +58,8 @@ module _ (H : List ℕ → Hash256) (cells : List FaceView) (refs : List (List �
           subst (λ x. get_or (set counts owner (get_or counts owner 0 + 1)) x 0 ≡ get_or counts x 0 + 1) here (get_or-set_same counts owner (get_or counts owner 0 + 1) 0 in_counts)
       by false e =
           let other : o ≢ owner = λ here.
-            let same : kid ≡ hash = sym (are.hashes kid owner kept_kid) ∙ ap (rep_at H cells) (sym here) ∙ are.hashes hash o is in
-            let no : false ≡ true = sym e ∙ decides.1 (ap (λ (h : Hash256). h.0) same) in cc in
+          let same : kid ≡ hash = sym (are.hashes kid owner kept_kid) ∙ ap (rep_at H cells) (sym here) ∙ are.hashes hash o is in
+          let no : false ≡ true = sym e ∙ decides.1 (ap (λ (h : Hash256). h.0) same) in cc in
           get_or-set_other counts owner o (get_or counts owner 0 + 1) 0 other ∙ omega arith
 
   -- a child adds one to the count of its own hash
@@ -66,8 +68,8 @@ module _ (H : List ℕ → Hash256) (cells : List FaceView) (refs : List (List �
       → get_or (set counts owner (get_or counts owner 0 + 1)) o 0 ≡ get_or counts o 0 + cond (has_bytes hash.0 (kid_at cells i place)) 1 0
   counted-child graph are i place owner l of owned counts long hash o is =
       counted-one are (rep_of_info (kid_at cells i place)) owner
-        (ap (λ k. kept_in kept (rep_of_info k)) (graph.kids i place l of) ∙ are.owned (ref_at refs i place) owner (graph.within i place l of) owned)
-        counts long hash o is
+      (ap (λ k. kept_in kept (rep_of_info k)) (graph.kids i place l of) ∙ are.owned (ref_at refs i place) owner (graph.within i place l of) owned)
+      counts long hash o is
 
 -- the children of entry i before a place are counted, each under its own hash
 pub record TalliedTo (cells : List FaceView) (kept : List (Hash256 × ℕ)) (i : ℕ) (start counts : List ℕ) (place : ℕ) : Type 0 where
@@ -89,17 +91,17 @@ module _ (H : List ℕ → Hash256) (cells : List FaceView) (refs : List (List �
       → TalliedTo cells kept i start (set counts owner (get_or counts owner 0 + 1)) (place + 1)
   TalliedTo-more i place owner l of owned start counts long t = record {
     counted = λ hash o is.
-      let here = counted-child H cells refs owners kept graph are i place owner l of owned counts long hash o is in
-      let so_far = t.counted hash o is in
-      let more = sum_by_more (λ kid. cond (has_bytes hash.0 kid) 1 0) (let face = face_at cells i in face.kids) place no_info of in
-      here ∙ omega (arith, so_far, more);
+        let here = counted-child H cells refs owners kept graph are i place owner l of owned counts long hash o is in
+        let so_far = t.counted hash o is in
+        let more = sum_by_more (λ kid. cond (has_bytes hash.0 kid) 1 0) (let face = face_at cells i in face.kids) place no_info of in
+        here ∙ omega (arith, so_far, more);
     few = λ k. ⊎_elim
         (λ (same : k ≡ owner).
-          let is = get_or-set_same counts owner (get_or counts owner 0 + 1) 0 (omega (arith, owner-within i place owner l of owned, long)) in
-          subst (λ x. get_or (set counts owner (get_or counts owner 0 + 1)) x 0 ≤ get_or start x 0 + (place + 1)) (sym same) (omega (arith, is, t.few owner)))
+        let is = get_or-set_same counts owner (get_or counts owner 0 + 1) 0 (omega (arith, owner-within i place owner l of owned, long)) in
+        subst (λ x. get_or (set counts owner (get_or counts owner 0 + 1)) x 0 ≤ get_or start x 0 + (place + 1)) (sym same) (omega (arith, is, t.few owner)))
         (λ (other : k ≢ owner).
-          let is = get_or-set_other counts owner k (get_or counts owner 0 + 1) 0 other in
-          omega (arith, is, t.few k))
+        let is = get_or-set_other counts owner k (get_or counts owner 0 + 1) 0 other in
+        omega (arith, is, t.few k))
         (cases_eq k owner);
     long = length-set counts owner (get_or counts owner 0 + 1) ∙ t.long;
   }
@@ -126,13 +128,13 @@ module _ (H : List ℕ → Hash256) (cells : List FaceView) (root : ℕ) (kept :
       record {
         long = length-set zeros owner 1 ∙ long;
         counted = λ hash o is.
-          let one = counted-one H cells [] owners kept are (rep_at H cells root) owner kept_root zeros long hash o is in
-          ap (λ z. get_or (set zeros owner (z + 1)) o 0) (sym (none owner)) ∙ one ∙ omega (arith, none o);
+            let one = counted-one H cells [] owners kept are (rep_at H cells root) owner kept_root zeros long hash o is in
+            ap (λ z. get_or (set zeros owner (z + 1)) o 0) (sym (none owner)) ∙ one ∙ omega (arith, none o);
         few = λ k. ⊎_elim {C = get_or (set zeros owner 1) k 0 ≤ 1 + 4 * 0}
-          (λ (same : k ≡ owner). let is = get_or-set_same zeros owner 1 0 (omega (arith, are.within (rep_at H cells root) owner kept_root, long)) in
+            (λ (same : k ≡ owner). let is = get_or-set_same zeros owner 1 0 (omega (arith, are.within (rep_at H cells root) owner kept_root, long)) in
             subst (λ x. get_or (set zeros owner 1) x 0 ≤ 1 + 4 * 0) (sym same) (omega (arith, is)))
-          (λ (other : k ≢ owner). let is = get_or-set_other zeros owner k 1 0 other in omega (arith, is, none k))
-          (cases_eq k owner);
+            (λ (other : k ≢ owner). let is = get_or-set_other zeros owner k 1 0 other in omega (arith, is, none k))
+            (cases_eq k owner);
       }
     where
       zero_at : (n k : ℕ) → get_or {A = ℕ} (replicate n 0) k 0 ≡ 0
@@ -144,9 +146,9 @@ module _ (H : List ℕ → Hash256) (cells : List FaceView) (root : ℕ) (kept :
   CountedTo-more counts next j pair l e long c counted few = record {
     long = long ∙ c.long;
     counted = λ hash owner is.
-      let more = sum_by_more (λ p. places_in hash.0 (face_at cells p.1)) kept j pair l in
-      let this : places_in hash.0 (face_at cells pair.1) ≡ places_in hash.0 (face_at cells (let p = get_or kept j pair in p.1)) = ap (λ (p : Hash256 × ℕ). places_in hash.0 (face_at cells p.1)) e in
-      omega (arith, counted hash owner is, c.counted hash owner is, more, this);
+        let more = sum_by_more (λ p. places_in hash.0 (face_at cells p.1)) kept j pair l in
+        let this : places_in hash.0 (face_at cells pair.1) ≡ places_in hash.0 (face_at cells (let p = get_or kept j pair in p.1)) = ap (λ (p : Hash256 × ℕ). places_in hash.0 (face_at cells p.1)) e in
+        omega (arith, counted hash owner is, c.counted hash owner is, more, this);
     few = λ k. omega (arith, few k, c.few k);
   }
 

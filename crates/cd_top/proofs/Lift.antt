@@ -95,9 +95,9 @@ module _ (H : List ℕ → Hash256) (cells : List FaceView) (refs : List (List �
   unfolded = record {
     kids = λ k l. children-bag H cells refs roots bag k l;
     behind = λ k r l h.
-      let in_refs : h.0 < degree_of cells k = omega (arith, h.1, length-take (degree_of cells k) (get_or refs k [])) in
-      let number : ref_at refs k h.0 ≡ r = sym (get_or-take (degree_of cells k) (get_or refs k []) h.0 0 in_refs) ∙ get_or_default (take (degree_of cells k) (get_or refs k [])) h.0 0 r h.1 ∙ h.2 in
-      (subst (λ x. k < x) number (bag.later k h.0 l in_refs), subst (λ x. x < length cells) number (bag.there k h.0 l in_refs));
+        let in_refs : h.0 < degree_of cells k = omega (arith, h.1, length-take (degree_of cells k) (get_or refs k [])) in
+        let number : ref_at refs k h.0 ≡ r = sym (get_or-take (degree_of cells k) (get_or refs k []) h.0 0 in_refs) ∙ get_or_default (take (degree_of cells k) (get_or refs k [])) h.0 0 r h.1 ∙ h.2 in
+        (subst (λ x. k < x) number (bag.later k h.0 l in_refs), subst (λ x. x < length cells) number (bag.there k h.0 l in_refs));
   }
 
   -- an entry has a reference for each child
@@ -152,9 +152,9 @@ module _ (H : List ℕ → Hash256) (cells : List FaceView) (refs : List (List �
     each : (s : Tree) → Contains (subtrees root_tree) s → IsSome (get kept_map (rep_bytes H s))
     each s at =
         let goes : (i r : ℕ) → i < length cells → IsSome (owner_in owners i) → Contains (take (degree_of cells i) (get_or refs i [])) r → IsSome (owner_in owners r) = λ i r l some h.
-          let of : h.0 < degree_of cells i = omega (arith, h.1, length-take (degree_of cells i) (get_or refs i [])) in
-          let number : ref_at refs i h.0 ≡ r = sym (get_or-take (degree_of cells i) (get_or refs i []) h.0 0 of) ∙ get_or_default (take (degree_of cells i) (get_or refs i [])) h.0 0 r h.1 ∙ h.2 in
-          subst (λ x. IsSome (owner_in owners x)) number (held.closed i l some h.0 of) in
+        let of : h.0 < degree_of cells i = omega (arith, h.1, length-take (degree_of cells i) (get_or refs i [])) in
+        let number : ref_at refs i h.0 ≡ r = sym (get_or-take (degree_of cells i) (get_or refs i []) h.0 0 of) ∙ get_or_default (take (degree_of cells i) (get_or refs i [])) h.0 0 r h.1 ∙ h.2 in
+        subst (λ x. IsSome (owner_in owners x)) number (held.closed i l some h.0 of) in
         let r = reached_all unfolded (λ k. IsSome (owner_in owners k)) goes (length cells) root (omega arith) in_cells held.first s at in
         let owner = some_of (owner_in owners r.0) r.2 in
         let rep : rep_of H s ≡ rep_at H cells r.0 = ap (rep_of H) (sym r.3) ∙ rep-tree_at r.0 in
@@ -164,7 +164,7 @@ module _ (H : List ℕ → Hash256) (cells : List FaceView) (refs : List (List �
     one : HasOneCellARep H root_tree
     one a b in-a in-b rep =
         let alone : (t : Tree) → Contains (root_tree ∷ []) t → (k : ℕ) × (k < length cells) × (tree_at k ≡ t) = λ t h.
-          ⊎_elim (λ same. (root, in_cells, same)) (λ none. absurd (Contains-nil t none)) (Contains-cases root_tree [] t h) in
+        ⊎_elim (λ same. (root, in_cells, same)) (λ none. absurd (Contains-nil t none)) (Contains-cases root_tree [] t h) in
         let pooled : (t : Tree) → Contains (subtrees root_tree) t → Contains (subtrees root_tree ++ []) t = λ t h. subst (λ (xs : List Tree). Contains xs t) (sym (append-nil (subtrees root_tree))) h in
         same_subtrees H (root_tree ∷ []) (clash_free-bag H cells refs roots bag (root_tree ∷ []) alone) a b (pooled a in-a) (pooled b in-b) rep
 
@@ -189,12 +189,12 @@ module _ (H : List ℕ → Hash256) (cells : List FaceView) (refs : List (List �
       pub count-held : (hash : List ℕ) → count_of H only_world hash ≡ references H cells root kept hash
       count-held hash =
           let values_are : sum_by (places_of H hash) (values (held_cells H only_world)) ≡ sum_by (λ e. places_in hash (face_at cells e.1)) kept =
-            ap (λ es. sum_by (places_of H hash) (map (λ e. e.1) es)) entries-held
-            ∙ sum_by-of_map (places_of H hash) (λ e. e.1) (map (tree_pair tree_at) kept) 0
-            ∙ sum_by-of_map (λ e. places_of H hash e.1) (tree_pair tree_at) kept 0
-            ∙ sums_agree (λ p. places_of H hash (tree_at p.1)) (λ p. places_in hash (face_at cells p.1)) kept (λ p. places-tree_at hash p.1) 0 in
+          ap (λ es. sum_by (places_of H hash) (map (λ e. e.1) es)) entries-held
+          ∙ sum_by-of_map (places_of H hash) (λ e. e.1) (map (tree_pair tree_at) kept) 0
+          ∙ sum_by-of_map (λ e. places_of H hash e.1) (tree_pair tree_at) kept 0
+          ∙ sums_agree (λ p. places_of H hash (tree_at p.1)) (λ p. places_in hash (face_at cells p.1)) kept (λ p. places-tree_at hash p.1) 0 in
           let as_root : count_by (λ b. has_hash H hash b.state) (only_block ∷ []) ≡ cond {A = ℕ} (let rep = rep_at H cells root in bytes_eq rep.0 hash) 1 0 =
-            zero-add (cond (has_hash H hash root_tree) 1 0) ∙ ap (λ (rep : Hash256). cond {A = ℕ} (bytes_eq rep.0 hash) 1 0) (rep-tree_at root) in
+          zero-add (cond (has_hash H hash root_tree) 1 0) ∙ ap (λ (rep : Hash256). cond {A = ℕ} (bytes_eq rep.0 hash) 1 0) (rep-tree_at root) in
           ap (λ n. n + sum_by (places_of H hash) (values (held_cells H only_world))) as_root
           ∙ ap (λ n. cond {A = ℕ} (let rep = rep_at H cells root in bytes_eq rep.0 hash) 1 0 + n) values_are
 

@@ -34,26 +34,48 @@ module _ (H : List ℕ → Hash256) where
         → IsPlainBag H bytes state → change ≡ change_of H (zero_world H state) → text ≡ zero_text H state
         → IsStoring change text held trail batches faults old new taken taken_after write_faults write_faults_after end
         → Ends H (record {
-            left = left; left_after = left_after; read_faults = read_faults; read_faults_after = read_faults_after;
-            held = held old; held_after = held new; trail = trail old; trail_after = trail new; batches = batches old; batches_after = batches new;
-            keep_faults = faults old; keep_faults_after = faults new;
-            taken = taken; taken_after = taken_after; write_faults = write_faults; write_faults_after = write_faults_after }) end
-    ends-from_storing left left_after rf rfa old new taken taken_after wf wfa change text bytes state status.Ok empty all at_end within bag is printed e =
-        (bytes, state,
-          record {
-            read = record { input = record { all = all; end = at_end; within = within }; bag = bag };
-            held = e.0.made ∙ held-after (held old) change state empty is;
-            trail = e.0.trailed;
-            batches = e.0.counted },
-          subst (Got taken taken_after) printed e.1)
-    ends-from_storing left left_after rf rfa old new taken taken_after wf wfa change text bytes state status.WriteFault empty all at_end within bag is printed e =
-        (e.0, (bytes, state,
-          record {
-            read = record { input = record { all = all; end = at_end; within = within }; bag = bag };
-            held = e.1.made ∙ held-after (held old) change state empty is;
-            trail = e.1.trailed;
-            batches = e.1.counted },
-          subst (GotPart taken taken_after) printed e.2))
+          left = left;
+          left_after = left_after;
+          read_faults = read_faults;
+          read_faults_after = read_faults_after;
+          held = held old;
+          held_after = held new;
+          trail = trail old;
+          trail_after = trail new;
+          batches = batches old;
+          batches_after = batches new;
+          keep_faults = faults old;
+          keep_faults_after = faults new;
+          taken = taken;
+          taken_after = taken_after;
+          write_faults = write_faults;
+          write_faults_after = write_faults_after;
+        }) end
+    ends-from_storing left left_after rf rfa old new taken taken_after wf wfa change text bytes state status.Ok empty all at_end within bag is printed e = (
+      bytes,
+      state,
+      record {
+        read = record { input = record { all = all; end = at_end; within = within }; bag = bag };
+        held = e.0.made ∙ held-after (held old) change state empty is;
+        trail = e.0.trailed;
+        batches = e.0.counted;
+      },
+      subst (Got taken taken_after) printed e.1,
+    )
+    ends-from_storing left left_after rf rfa old new taken taken_after wf wfa change text bytes state status.WriteFault empty all at_end within bag is printed e = (
+      e.0,
+      (
+        bytes,
+        state,
+        record {
+          read = record { input = record { all = all; end = at_end; within = within }; bag = bag };
+          held = e.1.made ∙ held-after (held old) change state empty is;
+          trail = e.1.trailed;
+          batches = e.1.counted;
+        },
+        subst (GotPart taken taken_after) printed e.2,
+      ),
+    )
     ends-from_storing left left_after rf rfa old new taken taken_after wf wfa change text bytes state status.KeeperFault empty all at_end within bag is printed e =
         (e.0, (bytes, state, record { input = record { all = all; end = at_end; within = within }; bag = bag }), record { held = e.1.same_held; trail = e.1.same_trail; batches = e.1.same_batches; taken = e.2 })
     ends-from_storing left left_after rf rfa old new taken taken_after wf wfa change text bytes state status.Memory empty all at_end within bag is printed e =

@@ -8,13 +8,7 @@ use cd_cell::{Face, Hash32};
 use std::alloc::{AllocError, Global};
 
 /// Adds one for each child of an entry to the count of the entry that is kept for the child.
-fn tally<H: Hash32>(
-    cells: &[Face],
-    refs: &[[u32; 4]],
-    held: &Held,
-    i: usize,
-    counts: &mut Vec<u64>,
-)
+fn tally<H: Hash32>(cells: &[Face], refs: &[[u32; 4]], held: &Held, i: usize, counts: &mut Vec<u64>)
     requires graph { IsGraph H.digest_of cells.now refs.now }
     requires kept { AreKept H.digest_of cells.now held.now.owners.items held.now.kept.items }
     requires bound { i < length cells.now }

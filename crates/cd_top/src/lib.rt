@@ -9,4 +9,8 @@ mod records;
 mod status;
 mod zero;
 
+pub use once::{Ended, INPUT_LIMIT, celldb_once};
 pub use status::{InputFault, Status, WordFault};
+
+#[cfg(test)]
+mod tests;

@@ -96,14 +96,23 @@ pub fn celldb_once<S: Source, O: Sink, K: Keeper, H: Hash32>(
     ensures usage { (result.status ≡ Status.Usage WordFault.Usage) ↔ ¬ IsZeroLine (map string_bytes words.now) }
     ensures refused { ¬ IsZeroLine (map string_bytes words.now) → IsLeft (S.left input.old) (S.left input.new) (K.held keeper) (K.held result.keeper) (O.taken out.old) (O.taken out.new) }
     ensures zero { IsZeroLine (map string_bytes words.now) → Ends H.digest_of (record {
-        left = S.left input.old; left_after = S.left input.new;
-        read_faults = S.faults input.old; read_faults_after = S.faults input.new;
-        held = K.held keeper; held_after = K.held result.keeper;
-        trail = K.trail keeper; trail_after = K.trail result.keeper;
-        batches = K.batches keeper; batches_after = K.batches result.keeper;
-        keep_faults = K.faults keeper; keep_faults_after = K.faults result.keeper;
-        taken = O.taken out.old; taken_after = O.taken out.new;
-        write_faults = O.faults out.old; write_faults_after = O.faults out.new }) result.status }
+      left = S.left input.old;
+      left_after = S.left input.new;
+      read_faults = S.faults input.old;
+      read_faults_after = S.faults input.new;
+      held = K.held keeper;
+      held_after = K.held result.keeper;
+      trail = K.trail keeper;
+      trail_after = K.trail result.keeper;
+      batches = K.batches keeper;
+      batches_after = K.batches result.keeper;
+      keep_faults = K.faults keeper;
+      keep_faults_after = K.faults result.keeper;
+      taken = O.taken out.old;
+      taken_after = O.taken out.new;
+      write_faults = O.faults out.old;
+      write_faults_after = O.faults out.new;
+    }) result.status }
 {
     if !is_zero_line(words) {
         return Ended::of(Status::Usage(WordFault::Usage), keeper);

@@ -69,8 +69,11 @@ fn batch_of(
     requires keys { IsDistinct same_key (keys_of (cells_put.entries_of hash_bytes puts.items)) }
     requires depth { depth ≤ 1024 }
     ensures { IfOk result (λ batch. batch ≡ record {
-        put_cells = cells_put.entries_of hash_bytes puts.items; drop_cells = [];
-        put_descs = (key_of id, descr_text (zero_descr id depth)) ∷ []; drop_descs = [] }) }
+      put_cells = cells_put.entries_of hash_bytes puts.items;
+      drop_cells = [];
+      put_descs = (key_of id, descr_text (zero_descr id depth)) ∷ [];
+      drop_descs = [];
+    }) }
 {
     let descr = Descr {
         id,

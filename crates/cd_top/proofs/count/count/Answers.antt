@@ -57,4 +57,4 @@ returns g c =
     let held = c.requires.held in
     let items = c.deref-pair-items.ensures.value in
     CountedTo-end g.H.Hash32.digest_of c.args.cells.now c.args.root c.args.held.now.kept.items c.loop-pair.counts.items c.loop-pair.pair-index (omega (arith, ap length items, c.loop-pair-test.false)) held.few c.requires.graph.few
-      (omega (arith, ap length items, c.loop-pair.auto.pair-index-end)) c.loop-pair.invariant
+    (omega (arith, ap length items, c.loop-pair.auto.pair-index-end)) c.loop-pair.invariant

@@ -57,4 +57,4 @@ loop-place-preserved g c =
     let in_counts : c.unwrap-owner.result < length c.loop-place.counts.items = omega (arith, in_cells, c.loop-place.invariant.long) in
     let was = c.index_mut.ensures.value ∙ get_or_default c.loop-place.counts.items c.unwrap-owner.result c.index_mut.result.now 0 in_counts in
     rw was (TalliedTo-more g.H.Hash32.digest_of c.args.cells.now c.args.refs.now owners c.args.held.now.kept.items graph kept c.args.i place c.unwrap-owner.result c.requires.bound of owned
-      c.args.counts.now.items c.loop-place.counts.items (omega (arith, c.loop-place.invariant.long)) c.loop-place.invariant)
+    c.args.counts.now.items c.loop-place.counts.items (omega (arith, c.loop-place.invariant.long)) c.loop-place.invariant)

@@ -18,4 +18,4 @@ pub returns : goal.returns
 returns g c =
     let H = g.H.Hash32.digest_of in
     moved (AreHeld H c.args.cells.now c.args.refs.now c.args.root) c.in_order.result c.in_ok-found.found.owners.items c.in_ok-found.found.by_hash.entries c.in_order.ensures.owners c.in_order.ensures.kept
-      (AreHeld-collected H c.args.cells.now c.args.refs.now c.args.root c.in_ok-found.found c.len-count.ensures.ordered c.in_ok-found.ensures)
+    (AreHeld-collected H c.args.cells.now c.args.refs.now c.args.root c.in_ok-found.found c.len-count.ensures.ordered c.in_ok-found.ensures)

@@ -59,10 +59,10 @@ returns-clause-batch g c =
     let id : c.id_of-id.result ≡ zero_id (rep_of H tree) = c.id_of-id.ensures ∙ ap zero_id (c.rep-2.ensures ∙ ap rep_of_info info) in
     let height : c.height.result ≡ height_of H tree = c.height.ensures ∙ ap height_of_info info in
     let puts =
-        c.in_ok-puts.ensures
-        ∙ ap (map (record_put cells c.deref-2.result.now)) c.deref.ensures.value
-        ∙ ap (λ counts. map (record_put cells counts) kept) c.deref-2.ensures.value
-        ∙ puts-held H cells refs [] c.requires.bag c.args.root c.requires.root c.in_ok-held.held.owners.items kept c.in_ok-held.ensures (zero_id (rep_of H tree)) c.in_ok-counts.counts.items c.in_ok-counts.ensures in
+    c.in_ok-puts.ensures
+    ∙ ap (map (record_put cells c.deref-2.result.now)) c.deref.ensures.value
+    ∙ ap (λ counts. map (record_put cells counts) kept) c.deref-2.ensures.value
+    ∙ puts-held H cells refs [] c.requires.bag c.args.root c.requires.root c.in_ok-held.held.owners.items kept c.in_ok-held.ensures (zero_id (rep_of H tree)) c.in_ok-counts.counts.items c.in_ok-counts.ensures in
     c.in_ok-batch.ensures ∙ (λ i. record { put_cells = puts i; drop_cells = []; put_descs = (key_of (id i), descr_text (zero_descr (id i) (height i))) ∷ []; drop_descs = [] })
 
 pub returns-clause-text : goal.returns-clause-text
