@@ -1,3 +1,5 @@
 pub mod Hashes
 pub mod OwnerLaws
 pub mod HeldLaws
+pub mod Lift
+pub mod OnceLaws

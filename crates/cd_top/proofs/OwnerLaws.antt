@@ -60,8 +60,8 @@ module _ (H : List ℕ → Hash256) (cells : List FaceView) {old new : Collected
   by_hash : (P : Hash256 → ℕ → Type 0) → P (rep_at H cells entry) owner → ((q : Hash256) (o : ℕ) → kept_at old q ≡ Some o → P q o) → (q : Hash256) (o : ℕ) → kept_at new q ≡ Some o → P q o
   by_hash P marked others q o e = ⊎_elim
       (λ same.
-        let is : owner ≡ o = same_Some owner o (sym (kept_new m) ∙ ap (kept_at new) same ∙ e) in
-        subst (λ x. P q x) is (subst (λ x. P x owner) same marked))
+      let is : owner ≡ o = same_Some owner o (sym (kept_new m) ∙ ap (kept_at new) same ∙ e) in
+      subst (λ x. P q x) is (subst (λ x. P x owner) same marked))
       (λ t. others q o (sym (kept_other m q t) ∙ e))
       (same_or_not (rep_at H cells entry) q)
 
@@ -82,7 +82,7 @@ module _ (H : List ℕ → Hash256) (cells : List FaceView) {old new : Collected
     hashes = by_hash (λ q o. rep_at H cells o ≡ q) (by_kept (λ o. rep_at H cells o ≡ rep_at H cells entry) (λ o e. a.hashes (rep_at H cells entry) o e) (λ none. refl)) a.hashes;
     own = by_hash (λ q o. owner_at new o ≡ Some o)
         (by_kept (λ o. owner_at new o ≡ Some o) (λ o e. same_owner o o (a.own (rep_at H cells entry) o e))
-          (λ none. owner_new m here ∙ ap (λ (o : ℕ). Some o) (owner_fresh m none)))
+        (λ none. owner_new m here ∙ ap (λ (o : ℕ). Some o) (owner_fresh m none)))
         (λ q o e. same_owner o o (a.own q o e));
     few = omega (arith, a.few, counted, grows);
   }
@@ -92,18 +92,19 @@ module _ (H : List ℕ → Hash256) (cells : List FaceView) {old new : Collected
         | true ↦ λ e. omega (arith, e)
         | false ↦ λ e. omega (arith, e)
       ] m.len
+
       elim_same : (i o : ℕ) → i < length cells → owner_at new i ≡ Some o → kept_at new (rep_at H cells i) ≡ Some o
       elim_same i o li e = ⊎_elim
           (λ (same : i ≡ entry). let is : owner ≡ o = same_Some owner o (sym (owner_new m here) ∙ ap (owner_at new) (sym same) ∙ e) in
-            ap (λ k. kept_at new (rep_at H cells k)) same ∙ kept_new m ∙ ap (λ (x : ℕ). Some x) is)
+          ap (λ k. kept_at new (rep_at H cells k)) same ∙ kept_new m ∙ ap (λ (x : ℕ). Some x) is)
           (λ (ne : i ≢ entry).
-            let was = a.owned i o li (sym (owner_other m i ne) ∙ e) in
-            ⊎_elim
-              (λ (tied : rep_at H cells entry ≡ rep_at H cells i).
-                let is : owner ≡ o = owner_was m o (ap (kept_at old) tied ∙ was) in
-                ap (kept_at new) (sym tied) ∙ kept_new m ∙ ap (λ (x : ℕ). Some x) is)
-              (λ t. kept_other m (rep_at H cells i) t ∙ was)
-              (same_or_not (rep_at H cells entry) (rep_at H cells i)))
+          let was = a.owned i o li (sym (owner_other m i ne) ∙ e) in
+          ⊎_elim
+          (λ (tied : rep_at H cells entry ≡ rep_at H cells i).
+          let is : owner ≡ o = owner_was m o (ap (kept_at old) tied ∙ was) in
+          ap (kept_at new) (sym tied) ∙ kept_new m ∙ ap (λ (x : ℕ). Some x) is)
+          (λ t. kept_other m (rep_at H cells i) t ∙ was)
+          (same_or_not (rep_at H cells entry) (rep_at H cells i)))
           (cases_eq i entry)
 
 -- an entry is reached now, and nothing else that wasn't before
@@ -177,6 +178,7 @@ AreOwners-none H cells c empty none = record {
   where
     unowned : (i : ℕ) → owner_at c i ≡ None
     unowned i = owner_at-none c (length cells) i empty
+
     unkept : (q : Hash256) → kept_at c q ≡ None
     unkept q = ap (λ (es : List (Hash256 × ℕ)). lookup (is_at (hash_cmp q)) es) none
 
@@ -208,7 +210,7 @@ module _ (H : List ℕ → Hash256) (cells : List FaceView) (refs : List (List �
     closed = λ k place before within is of. ⊎_elim
         (λ (same : k ≡ i). subst (λ x. IsSome (owner_at next (ref_at refs x place))) (sym same) (marked place (subst (λ x. place < degree_of cells x) same of)))
         (λ (ne : k ≢ i). keeps (ref_at refs k place) (w.closed k place (omega (arith, before, ne)) within
-          (⊎_elim (λ was. was) (λ named. absurd (omega (arith, graph.behind i named.0 l named.1, named.2, before))) (only k is)) of))
+        (⊎_elim (λ was. was) (λ named. absurd (omega (arith, graph.behind i named.0 l named.1, named.2, before))) (only k is)) of))
         (cases_eq k i);
     reached = λ k is. ⊎_elim (w.reached k)
         (λ named. subst (Reaches cells refs root) named.2 (onward i named.0 l named.1 (w.reached i some)))

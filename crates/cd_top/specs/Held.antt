@@ -1,5 +1,5 @@
 -- The cells that are held of a bag's root: each once, by the entry that is kept under its hash.
-use Rattle.std.specs.Prelude.{◌≡◌, ℕ, ◌+◌, ◌<◌, ◌≤◌, Bool, List, length, slice_index_or, Option, Some, None, IsSome, if◌then◌else◌}
+use Rattle.std.specs.Prelude.{◌≡◌, ℕ, ◌+◌, ◌^◌, ◌<◌, ◌≤◌, Bool, List, length, slice_index, slice_index_or, Option, Some, None, IsSome, if◌then◌else◌}
 use Rattle.std.specs.List.{count_by, sum_by}
 use Rattle.std.specs.List.Sorted.{IsStrictlySortedBy}
 use Rattle.std.specs.Map.{keys_of, lookup}
@@ -10,6 +10,7 @@ use Rattle.cd_cell.specs.declared.info.ChildInfo.{ChildInfo}
 use Rattle.cd_cell.specs.FaceView.{FaceView}
 use Rattle.cd_cell.specs.Infos.{rep_of_info}
 use Rattle.cd_cell.specs.Export.{hash_cmp}
+use Rattle.cd_record.specs.RecordText.{record_text}
 use Rattle.cd_top.specs.Graph.{face_at, degree_of, ref_at, rep_at, Reaches}
 
 -- the entry under a hash
@@ -53,3 +54,13 @@ places_in hash face = count_by (has_bytes hash) face.kids
 abbrev pub references : (List ℕ → Hash256) → List FaceView → ℕ → List (Hash256 × ℕ) → List ℕ → ℕ
 references H cells root kept hash =
     (let rep = rep_at H cells root in if bytes_eq rep.0 hash then 1 else 0) + sum_by (λ e. places_in hash (face_at cells e.1)) kept
+
+-- the counts of the kept entries, by their hashes, and no count of any entry is large
+pub record AreCounts (H : List ℕ → Hash256) (cells : List FaceView) (root : ℕ) (kept : List (Hash256 × ℕ)) (counts : List ℕ) : Type 0 where
+  pub long : length counts ≡ length cells
+  pub counted : (hash : Hash256) (owner : ℕ) → kept_in kept hash ≡ Some owner → slice_index counts owner ≡ references H cells root kept hash.0
+  pub few : (k : ℕ) → slice_index counts k < 2 ^ 32
+
+-- the record of a kept entry, under its hash
+abbrev pub record_put : List FaceView → List ℕ → Hash256 × ℕ → List ℕ × List ℕ
+record_put cells counts pair = (let hash = pair.0 in hash.0, record_text (slice_index counts pair.1) (face_at cells pair.1))

@@ -1,3 +1,6 @@
 pub mod Graph
 pub mod Owners
 pub mod Held
+pub mod StatusText
+pub mod Zero
+pub mod ZeroCall

@@ -4,3 +4,13 @@
 mod collect;
 mod count;
 mod held;
+mod once;
+mod records;
+mod status;
+mod zero;
+
+pub use once::{Ended, INPUT_LIMIT, celldb_once};
+pub use status::{InputFault, Status, WordFault};
+
+#[cfg(test)]
+mod tests;

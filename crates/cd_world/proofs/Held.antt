@@ -60,7 +60,7 @@ none_or_some : {X : Type 0} (o : Option X) → (o ≡ None) ⊎ ((x : X) × (o �
 none_or_some None = inl refl
 none_or_some (Some x) = inr (x, refl)
 
-some_of : {X : Type 0} (o : Option X) → IsSome o → (x : X) × (o ≡ Some x)
+pub some_of : {X : Type 0} (o : Option X) → IsSome o → (x : X) × (o ≡ Some x)
 some_of None e = cc
 some_of (Some x) e = (x, refl)
 

@@ -2,3 +2,4 @@ pub mod Among
 pub mod Subtrees
 pub mod Reached
 pub mod Held
+pub mod Puts

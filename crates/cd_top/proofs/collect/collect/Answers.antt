@@ -8,9 +8,6 @@ use Rattle.cd_top.proofs.OwnerLaws.{WalkedTo-first, WalkedTo-visit, WalkedTo-ski
 use Rattle.cd_top.proofs.collect.collect.Goals as goal
 use Rattle.cd_top.proofs.collect.collect.Goals.{then-is_some+in_ok-visit, else-is_some}
 
-pub visit-requires-clause-owners : goal.visit-requires-clause-owners
-visit-requires-clause-owners g c = c.loop-i.invariant.owners
-
 pub index-requires : goal.index-requires
 index-requires g c = omega (arith, c.loop-i.invariant.owners.long)
 
@@ -23,7 +20,7 @@ loop-i-init g c =
     let none : (k : ℕ) → owner_at start k ≡ None = λ k. owner_at-none start (length cells) k c.in_ok-no_owners.ensures in
     let marks = c.in_ok-mark.ensures.ok in
     let step = Step-marks H cells start c.mark.new.self c.args.root c.in_ok-mark.field-0 owners (none c.args.root) c.requires.bound
-        (subst (λ h. Marks start c.mark.new.self c.args.root h c.in_ok-mark.field-0) c.requires.hash marks) in
+    (subst (λ h. Marks start c.mark.new.self c.args.root h c.in_ok-mark.field-0) c.requires.hash marks) in
     WalkedTo-first H cells c.args.refs.now c.args.root start c.mark.new.self c.requires.bound none step
 
 pub loop-i-preserved : goal.loop-i-preserved
@@ -32,13 +29,13 @@ loop-i-preserved g c =
     let cells = c.args.cells.now in
     let within : c.loop-i.i < length c.loop-i.found.owners.items = omega (arith, c.loop-i.invariant.owners.long) in
     let owner : owner_at c.loop-i.found c.loop-i.i ≡ c.index.result.now =
-        get_or_default c.loop-i.found.owners.items c.loop-i.i None c.index.result.now within ∙ sym c.index.ensures in
+    get_or_default c.loop-i.found.owners.items c.loop-i.i None c.index.result.now within ∙ sym c.index.ensures in
     elim c.if-is_some.branch [
       | then-is_some+in_ok-visit w ↦
           let visited = w.in_ok-visit.ensures in
           let some : IsSome (owner_at c.loop-i.found c.loop-i.i) = ap is_some owner ∙ sym c.is_some.ensures ∙ w.if-is_some.true in
           rw w.found-is (WalkedTo-visit H cells c.args.refs.now c.args.root c.requires.graph c.loop-i.found w.visit.new.self c.loop-i.i (omega (arith, within, c.loop-i.invariant.owners.long)) some
-            c.loop-i.invariant visited.owners visited.keeps visited.marked visited.only)
+          c.loop-i.invariant visited.owners visited.keeps visited.marked visited.only)
       | else-is_some w ↦
           let none : owner_at c.loop-i.found c.loop-i.i ≡ None = owner ∙ none_of c.index.result.now (sym c.is_some.ensures ∙ w.if-is_some.false) in
           rw w.found-is (WalkedTo-skip H cells c.args.refs.now c.args.root c.loop-i.found c.loop-i.i none c.loop-i.invariant)

@@ -32,9 +32,9 @@ loop-place-preserved g c =
           let marked = w.in_ok-mark.ensures in
           let was_none : owner_at c.loop-place.self entry ≡ None = get_or_default c.loop-place.self.owners.items entry None c.index.result.now in_owners ∙ sym c.index.ensures ∙ none_of c.index.result.now (c.is_none.ensures ∙ ap not w.if-is_none.true) in
           rw w.self-is (VisitedTo-more H cells c.args.refs.now i c.args.self.now c.loop-place.self w.mark.new.self place of_kids c.loop-place.invariant
-            (Step-marks H cells c.loop-place.self w.mark.new.self entry w.in_ok-mark.field-0 c.loop-place.invariant.owners was_none within (subst (λ h. Marks c.loop-place.self w.mark.new.self entry h w.in_ok-mark.field-0) hash marked.ok)))
+          (Step-marks H cells c.loop-place.self w.mark.new.self entry w.in_ok-mark.field-0 c.loop-place.invariant.owners was_none within (subst (λ h. Marks c.loop-place.self w.mark.new.self entry h w.in_ok-mark.field-0) hash marked.ok)))
       | else-is_none w ↦
           let some : IsSome (owner_at c.loop-place.self entry) = ap is_some (sym (c.index.ensures ∙ get_or_default c.loop-place.self.owners.items entry c.index.result.now None in_owners)) ∙ w.if-is_none.ensures in
           rw w.self-is (VisitedTo-more H cells c.args.refs.now i c.args.self.now c.loop-place.self c.loop-place.self place of_kids c.loop-place.invariant
-            (Step-same H cells c.loop-place.self entry c.loop-place.invariant.owners some))
+          (Step-same H cells c.loop-place.self entry c.loop-place.invariant.owners some))
     ]

@@ -1,0 +1,38 @@
+-- What storing the state of a bag as a zero state does: the block's name, the world with that one block, and what is printed.
+use Rattle.std.specs.Prelude.{ℕ, List, [], ◌∷◌, ◌++◌, negsuc, replicate, false, codes}
+use Rattle.std.specs.Fmt.{decimal}
+use Rattle.std.specs.FinMap as finite
+use Rattle.cd_base.specs.declared.hash.Hash256.{Hash256}
+use Rattle.cd_block.specs.declared.block.BlockId.{BlockId}
+use Rattle.cd_block.specs.declared.description.Descr.{Descr}
+use Rattle.cd_block.specs.Spelling.{id_text}
+use Rattle.cd_cell.specs.Tree.{Tree, rep_of}
+use Rattle.cd_world.specs.World.{Block, World, held_cells}
+
+-- the masterchain's block of seqno 0 with this root hash and a file hash of zeros
+abbrev pub zero_id : Hash256 → BlockId
+zero_id root = record {
+  shard_id = record { workchain = negsuc 0; shard = 0x8000000000000000 };
+  seqno = 0;
+  root = root;
+  file = record { 0 = replicate 32 0 };
+}
+
+-- the description of a zero state with this name and depth
+abbrev pub zero_descr : BlockId → ℕ → Descr
+zero_descr id depth = record { id = id; parents = []; root = id.root; depth = depth; tops = []; leaving = false }
+
+-- the world that has this one block
+abbrev pub world_of : BlockId → Tree → World
+world_of id state = record { blocks = (record { id = id; parents = []; state = state; tops = []; leaving = false }) ∷ []; pins = []; next_pin = 0 }
+
+-- the block's name, and the number of its cells, a line each
+unfoldable pub printed_of : BlockId → ℕ → List ℕ
+printed_of id count = codes "id " ++ id_text id ++ codes "\ncells " ++ decimal count ++ codes "\n"
+
+module _ (H : List ℕ → Hash256) where
+  abbrev pub zero_world : Tree → World
+  zero_world state = world_of (zero_id (rep_of H state)) state
+
+  abbrev pub zero_text : Tree → List ℕ
+  zero_text state = printed_of (zero_id (rep_of H state)) (finite.len (held_cells H (zero_world state)))
