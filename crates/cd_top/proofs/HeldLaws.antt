@@ -1,5 +1,5 @@
 -- Held cells, in the order of their hashes, and the count of a child.
-use Rattle.std.proofs.Common.{◌≡◌, ◌≢◌, ℕ, ◌+◌, ◌*◌, ◌<◌, ◌≤◌, List, [], replicate, Bool, true, false, cond, Option, Some, None, length, get_or, set, take, refl, sym, ap, subst, ◌∙◌, ⊎_elim, arith, length-set, get_or-set_same, get_or-set_other}
+use Rattle.std.proofs.Common.{◌≡◌, ◌≢◌, ℕ, ◌+◌, ◌*◌, ◌<◌, ◌≤◌, List, [], replicate, Bool, true, false, cond, Option, Some, length, get_or, set, take, refl, sym, ap, subst, ◌∙◌, ⊎_elim, arith, length-set, get_or-set_same, get_or-set_other}
 use Rattle.std.specs.Prelude.{is_some}
 use Rattle.std.specs.List.{count_by, sum_by}
 use Rattle.std.specs.List.Sorted.{IsStrictlySortedBy}
@@ -9,7 +9,7 @@ use Rattle.std.proofs.lemmas.Map.Keys.{IsDistinct-from_sorted}
 use Rattle.std.specs.Cmp.{eq_by_cmp_equiv}
 use Rattle.std.proofs.lemmas.List.{length-replicate, get_or-replicate, get_or_past, take_all}
 use Rattle.cd_cell.proofs.ExportOrder.{hash_cmp-total}
-use Rattle.std.specs.BTreeMap.{IsOrdered, btree_map_len}
+use Rattle.std.specs.BTreeMap.{IsOrdered}
 use Rattle.std.specs.Str.{bytes_eq}
 use Rattle.std.proofs.lemmas.Slice.Eq.{bytes_eq-Decides}
 use Rattle.std.proofs.lemmas.Bool.{cases_eq, cases_lt}

@@ -1,14 +1,12 @@
 -- The held cells of a bag's root are those of its tree, and their counts are the tree's.
-use Rattle.std.proofs.Common.{◌≡◌, ◌≢◌, ℕ, ◌+◌, ◌<◌, ◌≤◌, List, [], ◌∷◌, ◌++◌, Bool, true, false, cond, Option, Some, None, length, get_or, take, map, refl, sym, ap, subst, ◌∙◌, ⊎_elim, arith, zero-add, append-nil}
+use Rattle.std.proofs.Common.{◌≡◌, ℕ, ◌+◌, ◌<◌, ◌≤◌, List, [], ◌∷◌, ◌++◌, true, false, cond, Option, Some, None, length, get_or, take, map, refl, sym, ap, subst, ◌∙◌, ⊎_elim, arith, zero-add, append-nil}
 use Rattle.std.specs.Prelude.{is_some, IsSome, slice_index, All}
 use Rattle.std.specs.List.{Contains, count_by, sum_by}
 use Rattle.std.specs.List.Sorted.{IsStrictlySortedBy}
 use Rattle.std.specs.List.{AllByRecursion, fold}
-use Rattle.std.specs.Map.{keys_of, lookup}
-use Rattle.std.specs.BTreeMap.{is_at}
+use Rattle.std.specs.Map.{keys_of}
 use Rattle.std.specs.Option.{option_map}
-use Rattle.std.specs.Ordering.{nat_cmp, eq_by_cmp, is_eq, is_lt}
-use Rattle.std.specs.declared.cmp.Ordering.{Ordering}
+use Rattle.std.specs.Ordering.{nat_cmp, eq_by_cmp}
 use Rattle.std.specs.declared.cmp.Ordering.TheVariants.{Less}
 use Rattle.std.specs.FinMap.Entries.{below_all}
 use Rattle.std.proofs.lemmas.List.{get_or-take, get_or_default, get_or_past, length-take}
@@ -19,10 +17,9 @@ use Rattle.cd_keeper.specs.NoKeyTwice.{same_key}
 use Rattle.std.proofs.lemmas.Option.{none-some, same_Some}
 use lib.Dec.{T}
 use Rattle.std.specs.Cmp.Lexicographic.{slice_cmp}
-use Rattle.std.specs.FinMap.{FinMap, find, get, entries, values, is_sorted, from_sorted, entries-from_sorted, get-from_sorted}
+use Rattle.std.specs.FinMap.{find, get, entries, values, is_sorted, from_sorted, entries-from_sorted, get-from_sorted}
 use Rattle.std.specs.Str.{bytes_eq}
 use Rattle.cd_base.specs.declared.hash.Hash256.{Hash256}
-use Rattle.cd_cell.specs.declared.info.ChildInfo.{ChildInfo}
 use Rattle.cd_cell.specs.FaceView.{FaceView}
 use Rattle.cd_cell.specs.Infos.{rep_of_info}
 use Rattle.cd_cell.specs.Tree.{Tree, children, subtrees, info_of, face_of, rep_of}
@@ -36,12 +33,12 @@ use Rattle.cd_cell.specs.Fit.{IsFaceFit}
 use Rattle.cd_record.specs.RecordText.{record_text}
 use Rattle.std.proofs.lemmas.List.Elements.{recursion_from_All}
 use Rattle.cd_top.proofs.HeldLaws.{kept-pair}
-use Rattle.cd_world.specs.World.{Block, World, CellMap, held_of, held_cells, has_hash, places_of, count_of}
+use Rattle.cd_world.specs.World.{Block, World, CellMap, held_cells, has_hash, places_of, count_of}
 use Rattle.cd_world.specs.Image.{record_entry}
 use Rattle.cd_world.proofs.Reached.{IsUnfolded, reached_all, reached_below}
 use Rattle.cd_world.proofs.Held.{rep_bytes, HasOneCellARep, held_is, count_of-held, some_of}
 use Rattle.cd_top.specs.Graph.{IsGraph, Reaches, itself, onward, face_at, degree_of, ref_at, rep_at}
-use Rattle.cd_top.specs.Held.{AreKept, AreHeld, AreCounts, kept_in, owner_in, has_bytes, places_in, references, record_put}
+use Rattle.cd_top.specs.Held.{AreHeld, AreCounts, kept_in, owner_in, has_bytes, places_in, references, record_put}
 
 -- a kept entry as a cell under its hash
 abbrev pub tree_pair : (ℕ → Tree) → Hash256 × ℕ → List ℕ × Tree

@@ -1,20 +1,18 @@
 -- Storing a plain bag's state in an empty keeper ends as the table of ends says.
-use Rattle.std.proofs.Common.{◌≡◌, ℕ, ◌≤◌, length, false, List, [], Option, Some, None, refl, sym, ap, subst, ◌∙◌}
+use Rattle.std.proofs.Common.{◌≡◌, ℕ, ◌≤◌, length, false, List, [], Option, Some, None, refl, ap, subst, ◌∙◌}
 use Rattle.std.specs.Prelude.{IfSome}
 use Rattle.std.specs.Option.{option_map}
 use Rattle.cd_base.specs.declared.hash.Hash256.{Hash256}
 use Rattle.cd_base.specs.Told.{Got, GotPart}
 use Rattle.cd_cell.specs.Tree.{Tree, rep_of}
 use Rattle.cd_keeper.specs.Contents.{Contents, Change, changed, no_contents}
-use Rattle.cd_keeper.specs.Keeping.{IsApplied, KeepsHeld}
 use Rattle.cd_plain.specs.PlainBags.{IsPlainBag}
-use Rattle.cd_world.specs.World.{Block}
 use Rattle.cd_world.specs.Image.{change_of, image_of}
 use Rattle.cd_world.proofs.Puts.{changed-change_of}
 use Rattle.cd_top.specs.declared.status.Status.{Status}
 use Rattle.cd_top.specs.declared.status.Status.TheVariants as status
 use Rattle.cd_top.specs.Zero.{zero_id, zero_world, zero_text}
-use Rattle.cd_top.specs.ZeroCall.{Seen, IsInput, IsUntouched, Ends, IsStoring}
+use Rattle.cd_top.specs.ZeroCall.{Ends, IsStoring}
 
 module _ (H : List ℕ → Hash256) where
   -- what the change makes of empty contents is the image

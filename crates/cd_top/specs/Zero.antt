@@ -7,7 +7,7 @@ use Rattle.cd_block.specs.declared.block.BlockId.{BlockId}
 use Rattle.cd_block.specs.declared.description.Descr.{Descr}
 use Rattle.cd_block.specs.Spelling.{id_text}
 use Rattle.cd_cell.specs.Tree.{Tree, rep_of}
-use Rattle.cd_world.specs.World.{Block, World, held_cells}
+use Rattle.cd_world.specs.World.{World, held_cells}
 
 -- the masterchain's block of seqno 0 with this root hash and a file hash of zeros
 abbrev pub zero_id : Hash256 → BlockId

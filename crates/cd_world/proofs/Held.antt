@@ -88,10 +88,13 @@ module _ (H : List ℕ → Hash256) where
     where
       back : (s : Tree) → Contains (listed b) s → Contains (subtrees b.state) s
       back s h = subst (λ (xs : List Tree). Contains xs s) (append-nil (subtrees b.state)) h
+
       forth : (s : Tree) → Contains (subtrees b.state) s → Contains (listed b) s
       forth s h = subst (λ (xs : List Tree). Contains xs s) (sym (append-nil (subtrees b.state))) h
+
       found : (q : List ℕ) → get (held_of H (b ∷ [])) q ≡ find (slice_cmp nat_cmp) q (keyed rep_bytes (listed b))
       found q = get-from_entries nat_list_cmp_total (keyed rep_bytes (listed b)) q
+
       by : (q : List ℕ) (o p : Option Tree) → find (slice_cmp nat_cmp) q (keyed rep_bytes (listed b)) ≡ o → get m q ≡ p → o ≡ p
       by q None None f g = refl
       by q None (Some s) f g =
@@ -106,6 +109,7 @@ module _ (H : List ℕ → Hash256) where
           let there = found_is rep_bytes q (listed b) s f in
           let here = only q t g in
           ap (λ (x : Tree). Some x) (one s t (back s there.0) here.0 (same_rep s t (there.1 ∙ sym here.1)))
+
       at : (q : List ℕ) → get (held_of H (b ∷ [])) q ≡ get m q
       at q = found q ∙ by q _ _ refl refl
 
@@ -133,17 +137,17 @@ module _ (H : List ℕ → Hash256) where
       → (s : Tree) → Contains (subtrees b.state) s → 1 ≤ count_of H (record { blocks = b ∷ []; pins = pins; next_pin = next }) (rep_bytes H s)
   count_of-held b m pins next one is each only s at = ⊎_elim
       (λ root. let hit : has_hash H (rep_bytes H s) b.state ≡ true = bytes_eq_same (rep_bytes H b.state) (rep_bytes H s) (ap (rep_bytes H) (sym root)) in
-        let whole : count_by (λ b. has_hash H (rep_bytes H s) b.state) (b ∷ []) ≡ 1 = ap (λ (t : Bool). 0 + cond t 1 0) hit in omega (arith, whole))
+      let whole : count_by (λ b. has_hash H (rep_bytes H s) b.state) (b ∷ []) ≡ 1 = ap (λ (t : Bool). 0 + cond t 1 0) hit in omega (arith, whole))
       (λ parent.
-        let p = parent.0 in
-        let found = some_of (get m (rep_bytes H p)) (each p parent.1) in
-        let there = only (rep_bytes H p) found.0 found.1 in
-        let same : found.0 ≡ p = one found.0 p there.0 parent.1 (same_rep H found.0 p there.1) in
-        let value : Contains (values m) p = subst (Contains (values m)) same (get_value m (rep_bytes H p) found.0 found.1) in
-        let place = Contains-le-sum_by (λ t. cond (has_hash H (rep_bytes H s) t) 1 0) (children p) s parent.2 in
-        let hit : has_hash H (rep_bytes H s) s ≡ true = bytes_eq_same (rep_bytes H s) (rep_bytes H s) refl in
-        let one_place : 1 ≤ places_of H (rep_bytes H s) p = subst (λ t. cond t 1 0 ≤ places_of H (rep_bytes H s) p) hit place in
-        let whole = Contains-le-sum_by (places_of H (rep_bytes H s)) (values m) p value in
-        let held : 1 ≤ sum_by (places_of H (rep_bytes H s)) (values (held_of H (b ∷ []))) = subst (λ x. 1 ≤ sum_by (places_of H (rep_bytes H s)) (values x)) (sym is) (omega (arith, one_place, whole)) in
-        omega (arith, held))
+      let p = parent.0 in
+      let found = some_of (get m (rep_bytes H p)) (each p parent.1) in
+      let there = only (rep_bytes H p) found.0 found.1 in
+      let same : found.0 ≡ p = one found.0 p there.0 parent.1 (same_rep H found.0 p there.1) in
+      let value : Contains (values m) p = subst (Contains (values m)) same (get_value m (rep_bytes H p) found.0 found.1) in
+      let place = Contains-le-sum_by (λ t. cond (has_hash H (rep_bytes H s) t) 1 0) (children p) s parent.2 in
+      let hit : has_hash H (rep_bytes H s) s ≡ true = bytes_eq_same (rep_bytes H s) (rep_bytes H s) refl in
+      let one_place : 1 ≤ places_of H (rep_bytes H s) p = subst (λ t. cond t 1 0 ≤ places_of H (rep_bytes H s) p) hit place in
+      let whole = Contains-le-sum_by (places_of H (rep_bytes H s)) (values m) p value in
+      let held : 1 ≤ sum_by (places_of H (rep_bytes H s)) (values (held_of H (b ∷ []))) = subst (λ x. 1 ≤ sum_by (places_of H (rep_bytes H s)) (values x)) (sym is) (omega (arith, one_place, whole)) in
+      omega (arith, held))
       (sub_parent b.state s at)

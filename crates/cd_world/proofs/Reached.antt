@@ -19,10 +19,10 @@ module _ {n : ℕ} {tree : ℕ → Tree} {refs : ℕ → List ℕ} (u : IsUnfold
   reached_all IsReached goes (suc steps) i e l h s at = ⊎_elim {C = (k : ℕ) × (k < n) × IsReached k × (tree k ≡ s)}
       (λ same. (i, l, h, sym same))
       (λ below.
-          let child = Contains-map_cases tree (refs i) below.0 (subst (λ xs. Contains xs below.0) (u.kids i l) below.1) in
-          let after = u.behind i child.0 l child.1 in
-          reached_all IsReached goes steps child.0 (omega (arith, e, after.0)) after.1 (goes i child.0 l h child.1) s
-              (subst (λ x. Contains (subtrees x) s) (sym child.2) below.2))
+      let child = Contains-map_cases tree (refs i) below.0 (subst (λ xs. Contains xs below.0) (u.kids i l) below.1) in
+      let after = u.behind i child.0 l child.1 in
+      reached_all IsReached goes steps child.0 (omega (arith, e, after.0)) after.1 (goes i child.0 l h child.1) s
+      (subst (λ x. Contains (subtrees x) s) (sym child.2) below.2))
       (sub_cases (tree i) s at)
 
   -- what an entry below a cell names is below the cell

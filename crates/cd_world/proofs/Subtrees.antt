@@ -1,5 +1,5 @@
 -- Where the cells below a cell stand: each is the cell itself or below a child of it.
-use Rattle.std.proofs.Common.{◌≡◌, List, ◌∷◌, ◌++◌, sym, subst, ◌⊎◌, inl, inr, ⊎_elim, arith}
+use Rattle.std.proofs.Common.{◌≡◌, List, ◌∷◌, sym, subst, ◌⊎◌, inl, inr, ⊎_elim}
 use Rattle.std.specs.List.{Contains}
 use Rattle.std.proofs.lemmas.List.Elements.{Contains-append_cases, Contains-append_right, Contains-append_left}
 use Rattle.cd_cell.specs.Tree.{Tree, Trees, cell, no_trees, tree_and, list_of, children, subtrees, subtrees_of_all}
@@ -30,19 +30,20 @@ mutual
   sub_parent (cell exotic bits ts) s h = ⊎_elim
       (λ same. inl (sym same))
       (λ later. inr (⊎_elim {C = HasParent (subtrees (cell exotic bits ts)) s}
-          (λ child. (cell exotic bits ts, Contains-first (cell exotic bits ts) (subtrees_of_all ts), child))
-          (λ deeper. (deeper.0, Contains-later (cell exotic bits ts) (subtrees_of_all ts) deeper.0 deeper.1, deeper.2))
-          (all_parent ts s later)))
+      (λ child. (cell exotic bits ts, Contains-first (cell exotic bits ts) (subtrees_of_all ts), child))
+      (λ deeper. (deeper.0, Contains-later (cell exotic bits ts) (subtrees_of_all ts) deeper.0 deeper.1, deeper.2))
+      (all_parent ts s later)))
       (Contains-cases (cell exotic bits ts) (subtrees_of_all ts) s h)
+
   all_parent : (ts : Trees) (s : Tree) → Contains (subtrees_of_all ts) s → Contains (list_of ts) s ⊎ HasParent (subtrees_of_all ts) s
   all_parent no_trees s h = absurd (Contains-nil s h)
   all_parent (tree_and t ts) s h = ⊎_elim
       (λ here. ⊎_elim
-          (λ same. inl (subst (Contains (t ∷ list_of ts)) (sym same) (Contains-first t (list_of ts))))
-          (λ deeper. inr (deeper.0, Contains-append_left (subtrees t) (subtrees_of_all ts) deeper.0 deeper.1, deeper.2))
-          (sub_parent t s here))
+      (λ same. inl (subst (Contains (t ∷ list_of ts)) (sym same) (Contains-first t (list_of ts))))
+      (λ deeper. inr (deeper.0, Contains-append_left (subtrees t) (subtrees_of_all ts) deeper.0 deeper.1, deeper.2))
+      (sub_parent t s here))
       (λ later. ⊎_elim
-          (λ child. inl (Contains-later t (list_of ts) s child))
-          (λ deeper. inr (deeper.0, Contains-append_right (subtrees t) (subtrees_of_all ts) deeper.0 deeper.1, deeper.2))
-          (all_parent ts s later))
+      (λ child. inl (Contains-later t (list_of ts) s child))
+      (λ deeper. inr (deeper.0, Contains-append_right (subtrees t) (subtrees_of_all ts) deeper.0 deeper.1, deeper.2))
+      (all_parent ts s later))
       (Contains-append_cases (subtrees t) (subtrees_of_all ts) s h)

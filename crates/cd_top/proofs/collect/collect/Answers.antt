@@ -1,5 +1,5 @@
 -- The root is marked first, and then what each reached entry names, from the root on.
-use Rattle.std.proofs.Common.{◌≡◌, ◌<◌, ℕ, Option, None, length, get_or, sym, ap, subst, ◌∙◌, arith}
+use Rattle.std.proofs.Common.{◌≡◌, ◌<◌, ℕ, None, length, sym, ap, subst, ◌∙◌, arith}
 use Rattle.std.specs.Prelude.{IsSome, is_some}
 use Rattle.std.proofs.lemmas.List.{get_or_default}
 use Rattle.cd_top.specs.declared.collect.Collected.{Collected}

@@ -1,9 +1,9 @@
 -- The root's owner has one reference at first, and each kept cell adds its places.
-use Rattle.std.proofs.Common.{◌≡◌, ◌<◌, ℕ, List, [], Some, None, length, get_or, sym, ap, subst, ◌∙◌, arith}
-use Rattle.std.specs.Prelude.{IsSome, is_some}
+use Rattle.std.proofs.Common.{◌≡◌, ◌<◌, ℕ, [], Some, None, length, get_or, sym, ap, ◌∙◌, arith}
+use Rattle.std.specs.Prelude.{is_some}
 use Rattle.std.proofs.lemmas.List.{get_or_default}
 use Rattle.cd_base.specs.declared.hash.Hash256.{Hash256}
-use Rattle.cd_top.specs.Held.{owner_in, kept_in}
+use Rattle.cd_top.specs.Held.{owner_in}
 use Rattle.cd_top.proofs.HeldLaws.{kept-pair, CountedTo-first, CountedTo-more, CountedTo-end}
 use Rattle.cd_top.proofs.count.count.Goals as goal
 

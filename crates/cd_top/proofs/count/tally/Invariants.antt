@@ -1,5 +1,4 @@
 -- The children so far are counted, each under its own hash.
-use Rattle.std.proofs.Common.{◌≡◌, ℕ, ◌+◌, ◌≤◌, length, get_or, take, Some}
 use Rattle.cd_top.proofs.HeldLaws.{TalliedTo}
 use Rattle.cd_top.proofs.count.tally.Given as goal
 

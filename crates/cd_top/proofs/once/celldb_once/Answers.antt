@@ -1,5 +1,5 @@
 -- The input was read whole, and what is stored of it is the world with its state.
-use Rattle.std.proofs.Common.{◌≡◌, Ok, refl, ap, sym, subst, ◌∙◌}
+use Rattle.std.proofs.Common.{Ok, refl, ap, sym, subst, ◌∙◌}
 use Rattle.cd_plain.specs.PlainBags.{IsPlainBag}
 use Rattle.cd_top.proofs.OnceLaws.{ends-from_storing}
 use Rattle.cd_top.proofs.once.celldb_once.Goals as goal

@@ -1,10 +1,10 @@
 -- The held cells of the root are those of its tree, with their counts.
-use Rattle.std.proofs.Common.{◌≡◌, ◌≤◌, ℕ, List, [], ◌∷◌, map, length, sym, ap, subst, ◌∙◌, arith}
+use Rattle.std.proofs.Common.{◌≡◌, ℕ, List, [], ◌∷◌, map, length, sym, ap, subst, ◌∙◌, arith}
 use Rattle.std.specs.Map.{keys_of}
 use Rattle.std.specs.List.{IsDistinct}
-use Rattle.std.specs.FinMap.{entries, len, len-entries}
+use Rattle.std.specs.FinMap.{len, len-entries}
 use Rattle.std.proofs.lemmas.List.{get_or_default, length-map}
-use Rattle.cd_cell.specs.Bags.{no_face, face_at, entries_of}
+use Rattle.cd_cell.specs.Bags.{no_face, entries_of}
 use Rattle.cd_cell.specs.Fit.{IsFaceFit}
 use Rattle.cd_cell.specs.Infos.{rep_of_info, height_of_info}
 use Rattle.cd_cell.specs.Levels.{info_of_face}

@@ -1,12 +1,12 @@
 -- A child is the entry that the reference in its place names, and it is marked under that entry's hash.
-use Rattle.std.proofs.Common.{◌≡◌, ◌<◌, List, None, length, get_or, sym, ap, subst, ◌∙◌, arith}
+use Rattle.std.proofs.Common.{◌≡◌, ◌<◌, None, length, get_or, sym, ap, subst, ◌∙◌, arith}
 use Rattle.std.specs.Prelude.{IsSome, is_some, not}
 use Rattle.std.proofs.lemmas.List.{get_or_default}
 use Rattle.cd_cell.specs.FaceView.{FaceView}
 use Rattle.cd_cell.specs.CellFaults.{no_info}
 use Rattle.cd_cell.specs.Bags.{no_face}
 use Rattle.cd_cell.specs.Infos.{rep_of_info}
-use Rattle.cd_top.specs.Graph.{face_at, degree_of, ref_at, rep_at}
+use Rattle.cd_top.specs.Graph.{degree_of, ref_at}
 use Rattle.cd_top.specs.Owners.{owner_at, Marks}
 use Rattle.cd_top.proofs.OwnerLaws.{none_of, VisitedTo-more, Step-same, Step-marks}
 use Rattle.cd_top.proofs.collect.Collected.visit.Goals as goal
