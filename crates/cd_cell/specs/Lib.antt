@@ -16,3 +16,4 @@ pub mod GoodFace
 pub mod Bags
 pub mod Listings
 pub mod Updates
+pub mod StoredText

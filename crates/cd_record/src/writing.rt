@@ -2,7 +2,8 @@ ghost use Rattle.std.specs.Prelude.{◌≡◌, ◌++◌, ◌^◌, ◌<◌, ◌�
 ghost use Rattle.std.specs.List.{flat_map};
 ghost use Rattle.cd_cell.specs.Masks.{is_significant};
 ghost use Rattle.cd_cell.specs.Fit.{IsFaceFit};
-ghost use Rattle.cd_record.specs.RecordText.{kid_text, hashes_text, depths_text, record_text, hash_text, depth_text};
+ghost use Rattle.cd_cell.specs.StoredText.{hash_text, depth_text, stored_hashes, stored_depths};
+ghost use Rattle.cd_record.specs.RecordText.{kid_text, record_text};
 
 use crate::record::Record;
 use cd_base::Memory;
@@ -56,7 +57,7 @@ fn put_kid(text: &mut Vec<u8>, kid: &ChildInfo) -> Result<(), AllocError>
 }
 
 fn put_hashes(text: &mut Vec<u8>, kid: &ChildInfo) -> Result<(), AllocError>
-    ensures { OnOk result (text.new.items ≡ text.old.items ++ hashes_text kid.now) }
+    ensures { OnOk result (text.new.items ≡ text.old.items ++ stored_hashes kid.now) }
 {
     put_hash(text, kid, 0)?;
     put_hash(text, kid, 1)?;
@@ -66,7 +67,7 @@ fn put_hashes(text: &mut Vec<u8>, kid: &ChildInfo) -> Result<(), AllocError>
 }
 
 fn put_depths(text: &mut Vec<u8>, kid: &ChildInfo) -> Result<(), AllocError>
-    ensures { OnOk result (text.new.items ≡ text.old.items ++ depths_text kid.now) }
+    ensures { OnOk result (text.new.items ≡ text.old.items ++ stored_depths kid.now) }
 {
     put_depth(text, kid, 0)?;
     put_depth(text, kid, 1)?;

@@ -2,12 +2,12 @@
 use Rattle.std.proofs.Common.{◌++◌, List, ℕ, ap, ◌∙◌}
 use Rattle.std.specs.Prelude.{if◌then◌else◌, []}
 use Rattle.cd_cell.specs.Masks.{is_significant}
-use Rattle.cd_record.specs.RecordText.{depth_text, depths_text}
+use Rattle.cd_cell.specs.StoredText.{depth_text, stored_depths}
 use Rattle.cd_record.proofs.KidTexts.{four_pieces}
 use Rattle.cd_record.proofs.writing.put_depths.Goals as goal
 
 pub returns : goal.returns
-unfolding depths_text
+unfolding stored_depths
 returns c =
     let kid = c.args.kid.now in
     let piece : ℕ → List ℕ = λ l. if is_significant kid.mask l then depth_text kid l else [] in

@@ -2,12 +2,12 @@
 use Rattle.std.proofs.Common.{◌++◌, List, ℕ, ap, ◌∙◌}
 use Rattle.std.specs.Prelude.{if◌then◌else◌, []}
 use Rattle.cd_cell.specs.Masks.{is_significant}
-use Rattle.cd_record.specs.RecordText.{hash_text, hashes_text}
+use Rattle.cd_cell.specs.StoredText.{hash_text, stored_hashes}
 use Rattle.cd_record.proofs.KidTexts.{four_pieces}
 use Rattle.cd_record.proofs.writing.put_hashes.Goals as goal
 
 pub returns : goal.returns
-unfolding hashes_text
+unfolding stored_hashes
 returns c =
     let kid = c.args.kid.now in
     let piece : ℕ → List ℕ = λ l. if is_significant kid.mask l then hash_text kid l else [] in
