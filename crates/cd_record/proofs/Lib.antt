@@ -1,1 +1,3 @@
 pub mod KidTexts
+pub mod DataFaults
+pub mod KidLoop
