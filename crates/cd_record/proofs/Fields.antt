@@ -5,7 +5,7 @@ use Rattle.std.proofs.lemmas.Bool.{eqb-true, eqb-false, ltb-false, le-ltb, ne_eq
 use Rattle.std.proofs.lemmas.List.{take_at, drop_at, take-append-drop, length-append, length-take}
 use Rattle.std.proofs.lemmas.Nat.{be_bytes_4, from_be_bytes-to_be_bytes_4}
 use Rattle.cd_base.specs.Numbers.{IsBytes}
-use Rattle.cd_base.proofs.NumberLaws.{IsBytes-take, IsBytes-drop}
+use Rattle.cd_base.proofs.NumberLaws.{IsBytes-take, IsBytes-drop, IsBytes-cons}
 use Rattle.cd_cell.specs.BitText.{data_of, byte_count, data_bits, is_odd, IsBitData}
 use Rattle.cd_cell.specs.Levels.{descriptor2}
 use Rattle.cd_cell.proofs.BitLemmas.{length-data_of}
@@ -56,10 +56,6 @@ part_again len part rest is =
 
 pub same_cons : (a b : ℕ) (xs ys : List ℕ) → a ≡ b → xs ≡ ys → ◌≡◌ {A = List ℕ} (a ∷ xs) (b ∷ ys)
 same_cons a b xs ys e f = rw (e, f) refl
-
-pub IsBytes-cons : (byte : ℕ) (bytes : List ℕ) → byte < 256 → IsBytes bytes → IsBytes (byte ∷ bytes)
-IsBytes-cons byte bytes small fits zero = small
-IsBytes-cons byte bytes small fits (suc i) = fits i
 
 -- a byte, and bytes behind it
 pub record TakesByte (bytes : List ℕ) (byte : ℕ) (rest : List ℕ) : Type 0 where

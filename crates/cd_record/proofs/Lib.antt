@@ -3,3 +3,5 @@ pub mod DataFaults
 pub mod KidLoop
 pub mod StoredLevels
 pub mod Fields
+pub mod KidReading
+pub mod RecordLaws

@@ -1,10 +1,8 @@
 -- What a record is: a count and a well-formed cell's face, each number in its range.
-use Rattle.std.specs.Prelude.{◌≡◌, ℕ, ◌^◌, ◌<◌, ◌≤◌, length, slice_index}
-use Rattle.cd_base.specs.declared.hash.Hash256.{Hash256}
-use Rattle.cd_base.specs.Numbers.{IsBytes}
+use Rattle.std.specs.Prelude.{◌≡◌, ℕ, ◌^◌, ◌<◌, ◌≤◌, length}
+use Rattle.std.specs.List.{AllByRecursion}
 use Rattle.cd_cell.specs.declared.info.ChildInfo.{ChildInfo}
 use Rattle.cd_cell.specs.Infos.{info_hash, info_depth}
-use Rattle.cd_cell.specs.CellFaults.{kid_at}
 use Rattle.cd_cell.specs.GoodFace.{IsGoodFace}
 use Rattle.cd_cell.specs.Steady.{IsSteady}
 use Rattle.cd_record.specs.declared.record.Record.{Record}
@@ -13,13 +11,13 @@ use Rattle.cd_record.specs.declared.record.Record.{Record}
 pub record IsInfo (k : ChildInfo) : Type 0 where
   pub hashes : length k.hashes ≡ 4
   pub depths : length k.depths ≡ 4
-  pub bytes : (l : ℕ) → l < 4 → length (info_hash k l).0 ≡ 32
-  pub numbers : (l : ℕ) → l < 4 → info_depth k l < 2 ^ 16
+  pub bytes : (l : ℕ) → length (info_hash k l).0 ≡ 32
+  pub numbers : (l : ℕ) → info_depth k l < 2 ^ 16
 
 -- a record as it may be written: a child shows at a level that isn't significant what it shows at the level below
 pub record IsRecord (r : Record) : Type 0 where
   pub some : 1 ≤ r.count
   pub few : r.count < 2 ^ 32
   pub face : IsGoodFace r.face
-  pub steady : (p : ℕ) → p < length r.face.kids → IsSteady (kid_at r.face p)
-  pub infos : (p : ℕ) → p < length r.face.kids → IsInfo (kid_at r.face p)
+  pub steady : AllByRecursion IsSteady r.face.kids
+  pub infos : AllByRecursion IsInfo r.face.kids

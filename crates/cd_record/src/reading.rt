@@ -196,9 +196,9 @@ fn judged(count: u32, mask: u8, face: Face) -> Result<Record, RecordFault>
     })
 }
 
-/// The record that the bytes spell. Takes no memory.
+/// The record that the bytes spell, all of them.
 #[tactic(auto, unfolding(crate::specs::RecordReading::record_in))]
-fn record_in(bytes: &[u8]) -> Result<Record, RecordFault>
+fn record_at(bytes: &[u8]) -> Result<Record, RecordFault>
     ensures { Gives (λ found. found) result (spec.record_in bytes.now) }
 {
     let rest = version_at(bytes)?;
@@ -218,4 +218,18 @@ fn record_in(bytes: &[u8]) -> Result<Record, RecordFault>
     }
     let face = Face::new(descriptor / 8 % 2 == 1, bits, &kids[..usize::from(refs)]);
     judged(count, descriptor / 32, face)
+}
+
+/// Reads a stored record. Takes no memory.
+pub fn decode(bytes: &[u8]) -> Result<Record, RecordFault>
+    // What is read is spelled so.
+    ensures found { IfOk result (λ found. IsRecord found × (bytes.now ≡ record_text found.count found.face)) }
+
+    // What is spelled so is read.
+    ensures only { (known : Record) → IsRecord known → bytes.now ≡ record_text known.count known.face → result ≡ Ok known }
+
+    // Which fault it is.
+    ensures exact { result ≡ spec.record_in bytes.now }
+{
+    record_at(bytes)
 }
