@@ -15,3 +15,6 @@ pub use export::{lay_out, write_bag};
 pub use layout::Layout;
 pub use shape::Shape;
 pub use write_fault::WriteFault;
+
+#[cfg(test)]
+mod tests;
