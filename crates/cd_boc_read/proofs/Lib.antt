@@ -1,2 +1,5 @@
 pub mod NumberFields
 pub mod Loops
+pub mod FieldLaws
+pub mod HeaderLaws
+pub mod PartLaws
