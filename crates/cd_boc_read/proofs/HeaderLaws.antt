@@ -11,14 +11,10 @@ use Rattle.cd_boc_read.specs.declared.counts.Counts.{Counts}
 use Rattle.cd_boc_read.specs.Grammar.{IsShape}
 use Rattle.cd_boc_read.specs.Reading.{◌>>=◌, require, number_at, byte_at, numbers_at, shape_of, are_flags, are_sizes, shape_at, counts_at, are_cells, roots_at}
 use Rattle.cd_boc_read.proofs.NumberFields.{both, shape_is}
+use Rattle.cd_boc_read.proofs.FlagBits.{flag_value, bit, bit-lt, bit-back, bit-times}
 use Rattle.cd_boc_read.proofs.FieldLaws.{ok_is, by_ok, by_test, holds, Takes, Takes-then, Takes-same, byte_takes, byte_again, number_takes, number_again, numbers_take, numbers_again}
 
 -- ---- the flag byte
-
-flag_value : (bit value : ℕ) → bit < 2 → cond (eqb bit 1) value 0 ≡ value * bit
-flag_value zero value lt = omega arith
-flag_value (suc zero) value lt = omega arith
-flag_value (suc (suc bit)) value lt = absurd (omega arith)
 
 flags_sum : (flags : ℕ) → flags < 256 → flags / 8 % 4 ≡ 0 → flags % 8 + 32 * (flags / 32 % 2) + 64 * (flags / 64 % 2) + 128 * (flags / 128 % 2) ≡ flags
 flags_sum flags small zeros = omega arith
@@ -29,26 +25,6 @@ flags_of-shape_of flags off_bytes small known =
     let f = both (eqb (flags / 8 % 4) 0) (not (eqb (flags / 32 % 2) 1) || eqb (flags / 128 % 2) 1) known in
     rw (flag_value (flags / 32 % 2) 32 (omega arith), flag_value (flags / 64 % 2) 64 (omega arith), flag_value (flags / 128 % 2) 128 (omega arith))
     (flags_sum flags small (eqb-true (flags / 8 % 4) 0 f.0))
-
--- a truth as a bit
-bit : Bool → ℕ
-bit true = 1
-bit false = 0
-
-bit-lt : (b : Bool) → bit b < 2
-unfolding bit
-bit-lt true = omega arith
-bit-lt false = omega arith
-
-bit-back : (b : Bool) → eqb (bit b) 1 ≡ b
-unfolding bit
-bit-back true = refl
-bit-back false = refl
-
-bit-times : (b : Bool) (value : ℕ) → cond b value 0 ≡ value * bit b
-unfolding bit
-bit-times true value = omega arith
-bit-times false value = omega arith
 
 flags_is : (s : Shape) → flags_of s ≡ s.size + 32 * bit s.has_cache_bits + 64 * bit s.has_crc + 128 * bit s.has_index
 flags_is s = rw (bit-times s.has_cache_bits 32, bit-times s.has_crc 64, bit-times s.has_index 128) refl
