@@ -2,6 +2,12 @@
 #![tactic(auto)]
 
 mod bag_fault;
+mod bag_text;
 mod cell_text;
+mod counts;
+mod fields;
+mod frame;
+mod frame_text;
+mod texts;
 
 pub use bag_fault::BagFault;

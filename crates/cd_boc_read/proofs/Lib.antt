@@ -1,0 +1,9 @@
+pub mod NumberFields
+pub mod Loops
+pub mod FlagBits
+pub mod FieldLaws
+pub mod HeaderLaws
+pub mod PartLaws
+pub mod TextLaws
+pub mod TextListLaws
+pub mod FrameLaws
