@@ -1,3 +1,4 @@
 pub mod Views
 pub mod Grammar
 pub mod CellFaults
+pub mod BagFaults

@@ -3,5 +3,6 @@
 
 mod bag_fault;
 mod cell_text;
+mod cells;
 
 pub use bag_fault::BagFault;

@@ -1,0 +1,2 @@
+pub mod StoredTexts
+pub mod CellLoop

@@ -1,0 +1,15 @@
+-- The first fault of bytes that are no bag, and what a reader answers.
+use Rattle.std.specs.Prelude.{◌≡◌, ℕ, ◌<◌, ◌⊎◌, List, length, slice_index_or, Option, Some, None, Result, Ok, Err}
+use Rattle.cd_boc_write.specs.CellTexts.{Text}
+use Rattle.cd_boc_read.specs.declared.bag_fault.BagFault.{BagFault}
+use Rattle.cd_boc_read.specs.declared.bag_fault.BagFault.TheVariants.{Memory}
+use Rattle.cd_boc_read.specs.Grammar.{IsText}
+
+-- each text is that of a cell with its number
+abbrev pub AreTexts : List Text → Type 0
+AreTexts ts = (k : ℕ) (d : Text) → k < length ts → IsText (length ts) k (slice_index_or ts k d)
+
+-- the answer is Ok exactly where there is no fault, and else that fault, but for want of memory
+abbrev pub Answers : {A : Type 0} → Option BagFault → Result A BagFault → Type 0
+Answers fault (Ok x) = fault ≡ None
+Answers fault (Err e) = (e ≡ Memory) ⊎ (fault ≡ Some e)
