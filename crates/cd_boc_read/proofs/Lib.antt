@@ -1,2 +1,4 @@
 pub mod StoredTexts
 pub mod CellLoop
+pub mod LeastHashes
+pub mod ClashLaws

@@ -2,3 +2,4 @@ pub mod Views
 pub mod Grammar
 pub mod CellFaults
 pub mod BagFaults
+pub mod Clashes

@@ -4,5 +4,6 @@
 mod bag_fault;
 mod cell_text;
 mod cells;
+mod clashes;
 
 pub use bag_fault::BagFault;
