@@ -1,3 +1,5 @@
+pub mod NumberFields
+pub mod Loops
 pub mod StoredTexts
 pub mod CellLoop
 pub mod LeastHashes

@@ -58,7 +58,7 @@ pub(crate) fn cells_of<H: Hash32>(alloc: Global, texts: &[CellText]) -> Result<C
 
 /// The face of a cell, by what all cells show.
 fn face_over(text: &CellText, infos: &[ChildInfo]) -> Face
-    requires few { text.now.count ≤ 4 }
+    requires few { length (text_view text.now).entry.refs ≤ 4 }
     requires there { (p : ℕ) → p < length (text_view text.now).entry.refs → slice_index (text_view text.now).entry.refs p < length infos.now }
     ensures { result ≡ record { exotic = text.now.exotic; bits = text.now.bits; kids = map (λ r. slice_index_or infos.now r no_info) (text_view text.now).entry.refs } }
 {

@@ -2,8 +2,14 @@
 #![tactic(auto)]
 
 mod bag_fault;
+mod bag_text;
 mod cell_text;
 mod cells;
 mod clashes;
+mod counts;
+mod fields;
+mod frame;
+mod frame_text;
+mod texts;
 
 pub use bag_fault::BagFault;

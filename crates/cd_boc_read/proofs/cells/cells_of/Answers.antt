@@ -20,7 +20,7 @@ face_over-face-requires-clause-few g c =
     let below : i < length texts = omega (arith, c.loop-left.invariant.within, length-text_views texts) in
     let at = text_read texts i t below c.index-texts-left.is in
     let text = subst (IsText (length (text_views texts)) i) at (c.requires.texts i (text_view t) (omega (arith, below, length-text_views texts))) in
-    omega (arith, text.few_refs, t.counted)
+    text.few_refs
 
 pub face_over-face-requires-clause-there : goal.face_over-face-requires-clause-there
 face_over-face-requires-clause-there g c = λ p in'.
