@@ -4,3 +4,4 @@ pub mod StoredTexts
 pub mod CellLoop
 pub mod LeastHashes
 pub mod ClashLaws
+pub mod StatedLaws
