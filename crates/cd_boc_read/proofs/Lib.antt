@@ -5,3 +5,10 @@ pub mod CellLoop
 pub mod LeastHashes
 pub mod ClashLaws
 pub mod StatedLaws
+pub mod FlagBits
+pub mod FieldLaws
+pub mod HeaderLaws
+pub mod PartLaws
+pub mod TextLaws
+pub mod TextListLaws
+pub mod FrameLaws
