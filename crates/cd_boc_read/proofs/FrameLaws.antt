@@ -1,16 +1,13 @@
 -- What is read of a bag's bytes is in the grammar and spelt so, and what is spelt so is read again.
-use Rattle.std.proofs.Common.{◌≡◌, ℕ, zero, suc, ◌+◌, ◌*◌, ◌/◌, ◌^◌, ◌<◌, ◌≤◌, Bool, true, false, cond, List, [], ◌∷◌, ◌++◌, length, get_or, map, subst, Result, Ok, Err, refl, sym, ap, ap₂, ◌∙◌, zero-add, arith}
-use Rattle.std.proofs.lemmas.Bool.{false≢true}
-use Rattle.std.proofs.lemmas.List.{nil_from_length, length-append, length-map, get_or_append_left, get_or-append_right}
+use Rattle.std.proofs.Common.{◌≡◌, ℕ, zero, suc, ◌+◌, ◌*◌, ◌^◌, ◌<◌, Bool, true, false, cond, List, [], ◌∷◌, ◌++◌, length, get_or, map, subst, Ok, refl, sym, ap, ap₂, ◌∙◌, zero-add, arith}
+use Rattle.std.proofs.lemmas.List.{nil_from_length, length-map}
 use Rattle.cd_base.specs.Numbers.{IsBytes}
-use Rattle.cd_boc_write.specs.declared.shape.Shape.{Shape}
 use Rattle.cd_boc_write.specs.Frames.{Frame, numbers_text, shape_text, counts_text, body_text, frame_text}
 use Rattle.cd_boc_write.specs.CellTexts.{Text, cell_text, texts_text, ends_from}
-use Rattle.cd_boc_read.specs.declared.bag_fault.BagFault.{BagFault}
-use Rattle.cd_boc_read.specs.Grammar.{IsShape, IsText, IsBagOf, end_of_entry}
-use Rattle.cd_boc_read.specs.Reading.{◌>>=◌, numbers_in, index_len, FrameParts, frame_at, texts_at, frame_of, bag_at}
-use Rattle.cd_boc_read.proofs.FieldLaws.{ok_is, by_ok, AreNumbers, numbers_of, numbers_in-text, length-numbers_text}
-use Rattle.cd_boc_read.proofs.HeaderLaws.{AreCounts, AreBelow}
+use Rattle.cd_boc_read.specs.Grammar.{IsText, IsBagOf, end_of_entry}
+use Rattle.cd_boc_read.specs.Reading.{numbers_in, FrameParts, frame_at, texts_at, frame_of, bag_at}
+use Rattle.cd_boc_read.proofs.FieldLaws.{ok_is, by_ok, numbers_of, numbers_in-text, length-numbers_text}
+use Rattle.cd_boc_read.proofs.HeaderLaws.{AreBelow}
 use Rattle.cd_boc_read.proofs.PartLaws.{crc_text, AreFrame, parts_body, frame_takes, frame_again}
 use Rattle.cd_boc_read.proofs.TextListLaws.{AreTexts, AreReadTexts, HoldEnds, texts_take, texts_again, ends_none, ends_some}
 

@@ -1,18 +1,17 @@
 -- The header of a bag that is read is the header that was written, and what was written is read again.
-use Rattle.std.proofs.Common.{◌≡◌, ℕ, zero, suc, ◌+◌, ◌*◌, ◌/◌, ◌%◌, ◌^◌, ◌<◌, ◌≤◌, Bool, true, false, not, ◌&&◌, ◌||◌, cond, eqb, leb, ltb, List, [], ◌∷◌, ◌++◌, length, get_or, subst, Result, Ok, Err, refl, sym, ap, ap₂, ◌∙◌, append_assoc, arith}
-use Rattle.std.proofs.lemmas.Bool.{eqb-true, eq-eqb, leb-true, le-leb, ltb-true, lt-ltb, false≢true}
+use Rattle.std.proofs.Common.{◌≡◌, ℕ, zero, suc, ◌+◌, ◌*◌, ◌/◌, ◌%◌, ◌^◌, ◌<◌, ◌≤◌, Bool, true, false, not, ◌&&◌, ◌||◌, cond, eqb, leb, ltb, List, [], ◌∷◌, ◌++◌, length, get_or, subst, Ok, Err, refl, sym, ap, ◌∙◌, append_assoc, arith}
+use Rattle.std.proofs.lemmas.Bool.{eqb-true, leb-true, le-leb, ltb-true, lt-ltb}
 use Rattle.cd_base.specs.Numbers.{IsBytes, big}
-use Rattle.cd_base.proofs.NumberLaws.{length-big}
 use Rattle.cd_boc_write.specs.declared.shape.Shape.{Shape}
 use Rattle.cd_boc_write.specs.Frames.{flags_of, numbers_text, shape_text, counts_text}
 use Rattle.cd_boc_read.specs.declared.bag_fault.BagFault.{BagFault}
 use Rattle.cd_boc_read.specs.declared.bag_fault.BagFault.TheVariants.{Magic, Flags, Sizes, Roots, Absent, Limit, RootIndex}
 use Rattle.cd_boc_read.specs.declared.counts.Counts.{Counts}
 use Rattle.cd_boc_read.specs.Grammar.{IsShape}
-use Rattle.cd_boc_read.specs.Reading.{◌>>=◌, require, number_at, byte_at, numbers_at, shape_of, are_flags, are_sizes, shape_at, counts_at, are_cells, roots_at}
+use Rattle.cd_boc_read.specs.Reading.{number_at, byte_at, numbers_at, shape_of, are_flags, are_sizes, shape_at, counts_at, are_cells, roots_at}
 use Rattle.cd_boc_read.proofs.NumberFields.{both, shape_is}
 use Rattle.cd_boc_read.proofs.FlagBits.{flag_value, bit, bit-lt, bit-back, bit-times}
-use Rattle.cd_boc_read.proofs.FieldLaws.{ok_is, by_ok, by_test, holds, Takes, Takes-then, Takes-same, byte_takes, byte_again, number_takes, number_again, numbers_take, numbers_again}
+use Rattle.cd_boc_read.proofs.FieldLaws.{ok_is, by_ok, by_test, Takes, Takes-then, Takes-same, byte_takes, byte_again, number_takes, number_again, numbers_take, numbers_again}
 
 -- ---- the flag byte
 

@@ -12,3 +12,4 @@ pub mod PartLaws
 pub mod TextLaws
 pub mod TextListLaws
 pub mod FrameLaws
+pub mod BagRead

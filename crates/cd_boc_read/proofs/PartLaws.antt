@@ -1,19 +1,18 @@
 -- The frame that is read is the frame that was written, and what was written is read again.
-use Rattle.std.proofs.Common.{◌≡◌, ℕ, zero, suc, ◌+◌, ◌-◌, ◌*◌, ◌/◌, ◌%◌, ◌^◌, ◌<◌, ◌≤◌, Bool, true, false, cond, eqb, List, [], ◌∷◌, ◌++◌, length, take, subst, fold, bit_xor, Result, Ok, Err, refl, sym, ap, ap₂, ◌∙◌, append_assoc, arith}
+use Rattle.std.proofs.Common.{◌≡◌, ℕ, zero, suc, ◌+◌, ◌-◌, ◌*◌, ◌/◌, ◌%◌, ◌^◌, ◌<◌, Bool, true, false, cond, eqb, List, [], ◌∷◌, ◌++◌, length, take, subst, fold, bit_xor, Ok, refl, sym, ap, ap₂, ◌∙◌, append_assoc, arith}
 use Rattle.std.proofs.lemmas.Bool.{eqb-true, eq-eqb}
 use Rattle.std.proofs.lemmas.List.{take_at, append-nil, length-append, nil_from_length}
 use Rattle.std.proofs.lemmas.Nat.{xor_lt}
-use Rattle.cd_base.specs.Numbers.{IsBytes, big, little, from_little}
+use Rattle.cd_base.specs.Numbers.{IsBytes, little, from_little}
 use Rattle.cd_base.specs.Checksum.{crc32c, crc_bits, crc_bit, crc_byte}
 use Rattle.cd_base.proofs.NumberLaws.{length-little, from_little-little, little-from_little}
-use Rattle.cd_boc_write.specs.declared.shape.Shape.{Shape}
 use Rattle.cd_boc_write.specs.Frames.{numbers_text, shape_text, counts_text}
 use Rattle.cd_boc_read.specs.declared.bag_fault.BagFault.{BagFault}
 use Rattle.cd_boc_read.specs.declared.bag_fault.BagFault.TheVariants.{Cut, Extra, Crc}
 use Rattle.cd_boc_read.specs.declared.counts.Counts.{Counts}
 use Rattle.cd_boc_read.specs.Grammar.{IsShape}
-use Rattle.cd_boc_read.specs.Reading.{◌>>=◌, require, part_at, shape_at, counts_at, roots_at, index_len, end_at, FrameParts, frame_at}
-use Rattle.cd_boc_read.proofs.FieldLaws.{ok_is, by_ok, by_test, test_holds, Takes, Takes-then, Takes-same, part_takes, part_again}
+use Rattle.cd_boc_read.specs.Reading.{part_at, shape_at, counts_at, roots_at, index_len, end_at, FrameParts, frame_at}
+use Rattle.cd_boc_read.proofs.FieldLaws.{ok_is, by_ok, by_test, test_holds, Takes-then, Takes-same, part_takes, part_again}
 use Rattle.cd_boc_read.proofs.HeaderLaws.{AreCounts, AreBelow, shape_takes, shape_again, counts_take, counts_again, roots_take, roots_again}
 
 -- ---- the checksum

@@ -2,14 +2,12 @@
 use Rattle.std.proofs.Common.{◌≡◌, ◌≢◌, ℕ, zero, suc, ◌+◌, ◌<◌, ◌≤◌, Bool, true, false, not, ◌&&◌, ◌==◌, nat_lt, List, [], ◌∷◌, length, get_or, drop, map, Contains, Option, Some, None, is_some, IfSome, refl, sym, ap, subst, ◌∙◌, arith}
 use Rattle.std.specs.Prelude.{if◌then◌else◌}
 use Rattle.std.specs.Option.{option_or, option_map}
-use Rattle.std.specs.Str.{bytes_eq}
 use Rattle.std.specs.Cmp.Lexicographic.{bytes_decides}
-use Rattle.std.proofs.lemmas.Bool.{true≢false, eqb-true, not-true}
+use Rattle.std.proofs.lemmas.Bool.{eqb-true}
 use Rattle.std.proofs.lemmas.Bool.Decides.{Decides-eqb}
 use Rattle.std.proofs.lemmas.List.{length-map, get_or-map, get_or_default}
 use Rattle.cd_base.specs.declared.hash.Hash256.{Hash256}
 use Rattle.cd_cell.specs.declared.info.ChildInfo.{ChildInfo}
-use Rattle.cd_cell.specs.declared.cell_fault.CellFault.{CellFault}
 use Rattle.cd_cell.specs.declared.kind.Kind.{Kind}
 use Rattle.cd_cell.specs.declared.kind.Kind.TheVariants.{Ordinary, Pruned, Library, Proof, Update}
 use Rattle.cd_cell.specs.FaceView.{FaceView}
@@ -18,17 +16,17 @@ use Rattle.cd_cell.specs.CellFaults.{first_byte, fault_of}
 use Rattle.cd_cell.specs.Fit.{IsFaceFit}
 use Rattle.cd_cell.specs.GoodFace.{IsGoodFace}
 use Rattle.cd_cell.specs.StoredText.{stored_text}
-use Rattle.cd_cell.specs.Tree.{Tree, children, info_of, face_of, mask_of, kind_of, IsWellFormed}
-use Rattle.cd_cell.specs.Unfolding.{Entry, no_tree, behind, tree_of_entry, unfold_from, unfolding_of, AreLater, infos_from, faces_from}
+use Rattle.cd_cell.specs.Tree.{Tree, children, info_of, face_of, kind_of, IsWellFormed}
+use Rattle.cd_cell.specs.Unfolding.{Entry, no_tree, behind, unfold_from, unfolding_of, AreLater, infos_from, faces_from}
 use Rattle.cd_cell.specs.Bags.{no_face, face_at}
-use Rattle.cd_cell.proofs.Subtrees.{list_of-trees_of, Contains-map, info_of-face_of, IsWellFormed-from, IsGoodFace-face_of}
+use Rattle.cd_cell.proofs.Subtrees.{list_of-trees_of, Contains-map, info_of-face_of, IsWellFormed-from}
 use Rattle.cd_cell.proofs.FitLemmas.{fit_from_no_fault}
 use Rattle.cd_cell.proofs.WellFormedCells.{no_fault_of_well_formed}
-use Rattle.cd_cell.proofs.Unfoldings.{get_or-mapped, faces_from-is, faces_from-at, length-faces_from, length-unfold_from, unfolding_of-is, behind-drop}
+use Rattle.cd_cell.proofs.Unfoldings.{faces_from-is, faces_from-at, length-faces_from, length-unfold_from, unfolding_of-is, behind-drop}
 use Rattle.cd_boc_write.specs.CellTexts.{Text, entries_of_texts}
 use Rattle.cd_boc_read.specs.declared.bag_fault.BagFault.{BagFault}
 use Rattle.cd_boc_read.specs.declared.bag_fault.BagFault.TheVariants.{PrunedHashes, Cell, MaskDiffers, StoredHash}
-use Rattle.cd_boc_read.specs.Grammar.{IsText, IsStated}
+use Rattle.cd_boc_read.specs.Grammar.{IsStated}
 use Rattle.cd_boc_read.specs.CellFaults.{unless, stores_pruned, is_shown, cell_fault, cells_fault}
 use Rattle.cd_boc_read.specs.BagFaults.{AreTexts}
 use Rattle.cd_boc_read.proofs.CellLoop.{cells_fault-cons, cells_fault-nil, length-entries}

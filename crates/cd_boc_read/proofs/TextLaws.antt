@@ -1,13 +1,13 @@
 -- The text of a cell that is read is the text that was written, and what was written is read again.
-use Rattle.std.proofs.Common.{◌≡◌, ◌≢◌, ℕ, zero, suc, ◌+◌, ◌-◌, ◌*◌, ◌/◌, ◌%◌, ◌^◌, ◌<◌, ◌≤◌, Bool, true, false, not, ◌&&◌, ◌||◌, cond, eqb, leb, ltb, List, [], ◌∷◌, ◌++◌, length, get_or, subst, Option, Some, None, Result, Ok, Err, refl, sym, ap, ap₂, ◌∙◌, append_assoc, arith}
+use Rattle.std.proofs.Common.{◌≡◌, ◌≢◌, ℕ, zero, suc, ◌+◌, ◌-◌, ◌*◌, ◌/◌, ◌%◌, ◌^◌, ◌<◌, ◌≤◌, Bool, true, false, not, ◌&&◌, ◌||◌, cond, eqb, leb, ltb, List, [], ◌∷◌, ◌++◌, length, get_or, subst, Option, Some, None, Ok, refl, sym, ap, ap₂, ◌∙◌, append_assoc, arith}
 use Rattle.std.specs.Prelude.{IfSome, is_some}
 use Rattle.std.specs.Option.{unwrap_or}
 use Rattle.std.specs.List.{list_all}
 use Rattle.std.specs.Int.{w8, trailing_zeros}
 use Rattle.std.proofs.lemmas.Bool.{eqb-true, eqb-false, eq-eqb, ne_eqb, leb-true, le-leb, ltb-true, lt-ltb, false≢true}
-use Rattle.std.proofs.lemmas.List.{append-nil, nil_from_length}
+use Rattle.std.proofs.lemmas.List.{nil_from_length}
 use Rattle.cd_base.specs.Numbers.{IsBytes}
-use Rattle.cd_cell.specs.BitText.{data_of, data_bits, data_bit_count}
+use Rattle.cd_cell.specs.BitText.{data_of, data_bits}
 use Rattle.cd_cell.specs.Levels.{descriptor2}
 use Rattle.cd_cell.proofs.BitLemmas.{data_of-whole, data_of-completed, kept-few, length-first_bits, length-data_of, bits_of_whole_data, bits_of_cut_data}
 use Rattle.cd_boc_write.specs.Frames.{numbers_text}
@@ -15,7 +15,7 @@ use Rattle.cd_boc_write.specs.CellTexts.{Text, first_descriptor, cell_text}
 use Rattle.cd_boc_read.specs.declared.bag_fault.BagFault.{BagFault}
 use Rattle.cd_boc_read.specs.declared.bag_fault.BagFault.TheVariants.{Descriptor, Completion, Order}
 use Rattle.cd_boc_read.specs.Grammar.{IsText, stored_len}
-use Rattle.cd_boc_read.specs.Reading.{◌>>=◌, require, part_at, numbers_at, stored_bytes, is_completed, is_later, text_of, parts_at, text_at}
+use Rattle.cd_boc_read.specs.Reading.{part_at, numbers_at, stored_bytes, is_completed, is_later, text_of, parts_at, text_at}
 use Rattle.cd_boc_read.proofs.NumberFields.{both}
 use Rattle.cd_boc_read.proofs.FlagBits.{flag_value, bit, bit-lt, bit-back, bit-times}
 use Rattle.cd_boc_read.proofs.FieldLaws.{ok_is, by_ok, by_test, Takes, Takes-then, Takes-same, part_takes, part_again, numbers_take, numbers_again}

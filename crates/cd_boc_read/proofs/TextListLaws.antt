@@ -1,18 +1,17 @@
 -- The texts of all cells that are read are those that were written, and what was written is read again.
-use Rattle.std.proofs.Common.{◌≡◌, ℕ, zero, suc, ◌+◌, ◌-◌, ◌*◌, ◌/◌, ◌^◌, ◌<◌, ◌≤◌, Bool, true, false, cond, eqb, List, [], ◌∷◌, ◌++◌, length, get_or, take, drop, map, subst, Result, Ok, Err, refl, sym, ap, ap₂, ◌∙◌, append_assoc, zero-add, arith}
-use Rattle.std.proofs.lemmas.Bool.{eqb-true, eq-eqb, false≢true}
-use Rattle.std.proofs.lemmas.List.{nil_from_length, length-append, append-nil}
+use Rattle.std.proofs.Common.{◌≡◌, ℕ, zero, suc, ◌+◌, ◌-◌, ◌^◌, ◌<◌, ◌≤◌, true, false, eqb, List, [], ◌∷◌, ◌++◌, length, get_or, take, drop, map, subst, Ok, refl, sym, ap, ap₂, ◌∙◌, arith}
+use Rattle.std.proofs.lemmas.Bool.{eqb-true, eq-eqb}
+use Rattle.std.proofs.lemmas.List.{nil_from_length, length-append}
 use Rattle.std.proofs.lemmas.List.Concat.{flat_map-cons}
 use Rattle.cd_base.specs.Numbers.{IsBytes, from_big, big}
 use Rattle.cd_base.proofs.NumberLaws.{from_big-front, drop-big_front}
 use Rattle.cd_boc_write.specs.declared.shape.Shape.{Shape}
 use Rattle.cd_boc_write.specs.Frames.{numbers_text}
 use Rattle.cd_boc_write.specs.CellTexts.{Text, cell_text, texts_text, ends_from}
-use Rattle.cd_boc_read.specs.declared.bag_fault.BagFault.{BagFault}
 use Rattle.cd_boc_read.specs.declared.bag_fault.BagFault.TheVariants.{Length, Index}
 use Rattle.cd_boc_read.specs.Grammar.{IsText, end_of_entry}
-use Rattle.cd_boc_read.specs.Reading.{◌>>=◌, require, numbers_in, text_at, is_end, texts_at}
-use Rattle.cd_boc_read.proofs.FieldLaws.{ok_is, by_ok, by_test, Takes}
+use Rattle.cd_boc_read.specs.Reading.{numbers_in, text_at, is_end, texts_at}
+use Rattle.cd_boc_read.proofs.FieldLaws.{ok_is, by_ok, by_test}
 use Rattle.cd_boc_read.proofs.HeaderLaws.{AreBelow}
 use Rattle.cd_boc_read.proofs.TextLaws.{text_takes, text_again}
 

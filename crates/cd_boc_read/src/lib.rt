@@ -10,6 +10,10 @@ mod counts;
 mod fields;
 mod frame;
 mod frame_text;
+mod laws;
+mod reading;
 mod texts;
 
 pub use bag_fault::BagFault;
+pub use laws::{a_bag_has_one_list_of_trees, bags_have_no_fault};
+pub use reading::read_bag;

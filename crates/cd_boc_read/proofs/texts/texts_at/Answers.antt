@@ -1,4 +1,4 @@
-use Rattle.std.proofs.Common.{◌≡◌, ◌++◌, ◌∷◌, [], ℕ, List, Result, length, sym, arith}
+use Rattle.std.proofs.Common.{◌≡◌, ◌++◌, ◌∷◌, [], List, Result, length, sym, arith}
 use Rattle.std.proofs.lemmas.List.{map_push}
 use Rattle.cd_boc_write.specs.CellTexts.{Text}
 use Rattle.cd_boc_read.specs.declared.bag_fault.BagFault.{BagFault}
