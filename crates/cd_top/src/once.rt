@@ -9,7 +9,7 @@ use crate::status::{InputFault, Status, TopRefusal, WordFault};
 use crate::zero::{Plan, plan_zero};
 use cd_base::{ReadAllFault, Sink, Source, read_all, write_all};
 use cd_boc_read::{BagFault, read_bag};
-use cd_cell::{Hash32, Mask};
+use cd_cell::Hash32;
 use cd_keeper::{KeepFault, Keeper};
 use std::alloc::Global;
 use std::marker::PhantomData;
@@ -69,7 +69,7 @@ fn plan_of<H: Hash32>(alloc: Global, bytes: &[u8]) -> Result<Plan, Status>
     }
     let root = roots[0];
     let mask = bag.face(root).mask();
-    if mask != Mask::NONE {
+    if mask.byte() != 0 {
         return Err(Status::Refused(TopRefusal::Level { mask }));
     }
     match plan_zero::<H>(alloc, &bag, root) {

@@ -178,9 +178,7 @@ fn other_bytes_than_a_bag_are_refused(rt: HostRuntime) -> Result<(), Fail> {
 
 #[test]
 fn a_bag_of_two_roots_is_no_state(rt: HostRuntime) -> Result<(), Fail> {
-    let two = [
-        0xb5, 0xee, 0x9c, 0x72, 1, 1, 2, 2, 0, 4, 0, 1, 0, 0, 0, 0,
-    ];
+    let two = [0xb5, 0xee, 0x9c, 0x72, 1, 1, 2, 2, 0, 4, 0, 1, 0, 0, 0, 0];
     let status = refused(rt.alloc(), &two)?;
     assert!(rt; status == Some(Status::Refused(TopRefusal::Roots { roots: 2 })));
     Ok(())
@@ -233,7 +231,11 @@ fn a_keeper_that_fails_stores_nothing(rt: HostRuntime) -> Result<(), Fail> {
         let mut out = SteadySink::new(alloc);
         let keeper = MemoryKeeper::new(alloc, [failing].to_vec(alloc)?);
         let (status, mut keeper) = zero(alloc, &mut input, &mut out, keeper)?;
-        let due = if failing == 0 { Status::KeeperFault } else { Status::Ok };
+        let due = if failing == 0 {
+            Status::KeeperFault
+        } else {
+            Status::Ok
+        };
         assert!(rt; status == due);
         assert!(rt; keeper.faults() == u64::from(failing == 0));
         assert!(rt; keeper.batches() == u64::from(failing > 0));
