@@ -17,3 +17,6 @@ mod texts;
 pub use bag_fault::BagFault;
 pub use laws::{a_bag_has_one_list_of_trees, bags_have_no_fault};
 pub use reading::read_bag;
+
+#[cfg(test)]
+mod tests;
