@@ -1,8 +1,12 @@
 -- What the code's structs are, without where they lie in memory.
 use Rattle.std.specs.Prelude.{List, map, take}
 use Rattle.std.specs.Option.{option_map}
+use Rattle.cd_boc_write.specs.Frames.{Frame}
 use Rattle.cd_boc_write.specs.CellTexts.{Text}
 use Rattle.cd_boc_read.specs.declared.cell_text.CellText.{CellText}
+use Rattle.cd_boc_read.specs.declared.frame_text.FrameText.{FrameText}
+use Rattle.cd_boc_read.specs.declared.bag_text.BagText.{BagText}
+use Rattle.cd_boc_read.specs.Reading.{FrameParts, frame_of}
 
 abbrev pub text_view : CellText → Text
 text_view t = record {
@@ -13,3 +17,9 @@ text_view t = record {
 
 abbrev pub text_views : List CellText → List Text
 text_views ts = map text_view ts
+
+abbrev pub parts_view : FrameText → FrameParts
+parts_view f = record { shape = f.shape; cells = f.cells; roots = f.roots.items; index = f.index.now; cell_data = f.cell_data.now }
+
+abbrev pub bag_view : BagText → Frame × List Text
+bag_view b = (frame_of (parts_view b.frame), text_views b.texts.items)

@@ -1,4 +1,4 @@
-ghost use Rattle.std.specs.Prelude.{◌≡◌, length, take};
+ghost use Rattle.std.specs.Prelude.{◌≡◌, take};
 
 use cd_cell::{Bits, Mask};
 
@@ -13,8 +13,8 @@ pub(crate) struct CellText<'a> {
     pub bits: Bits,
     /// The numbers of the children, with zeros behind them.
     pub refs: [u32; 4],
+    /// How many children there are, at most 4.
     pub count: u8,
-    pub ghost counted: { length (take count refs) ≡ count },
 }
 
 impl CellText<'_> {
@@ -22,6 +22,6 @@ impl CellText<'_> {
     pub fn children(&self) -> &[u32]
         ensures { result.now ≡ take self.now.count self.now.refs }
     {
-        &self.refs[..self.count as usize]
+        &self.refs[..usize::from(self.count).min(4)]
     }
 }

@@ -1,6 +1,7 @@
 -- Bits as bytes: the data of a cell, with the completion of a last byte that isn't full.
 use Rattle.std.specs.Prelude.{ℕ, zero, suc, ◌+◌, ◌-◌, ◌*◌, ◌/◌, ◌%◌, Bool, true, false, List, [], ◌∷◌, ◌++◌, length, take, drop, replicate, ◌==◌, ◌≡◌, ◌≢◌, ◌≤◌, ◌<◌, slice_index, if◌then◌else◌}
 use Rattle.std.specs.List.{flat_map}
+use Rattle.std.specs.Int.{w8, trailing_zeros}
 
 -- whether the lowest bit is set
 abbrev pub is_odd : ℕ → Bool
@@ -55,3 +56,12 @@ pub record IsBitText (bytes : List ℕ) (count : ℕ) : Type 0 where
 abbrev pub IsBitData : Bool → List ℕ → Type 0
 IsBitData true bytes = length bytes ≤ 127
 IsBitData false bytes = (0 < length bytes) × (length bytes ≤ 128) × (slice_index bytes (length bytes - 1) % 128 ≢ 0)
+
+-- how many bits such bytes are the data of: all, or those before the lowest set bit of the last byte
+abbrev pub data_bit_count : Bool → List ℕ → ℕ
+data_bit_count true bytes = 8 * length bytes
+data_bit_count false bytes = 8 * length bytes - 1 - trailing_zeros w8 (slice_index bytes (length bytes - 1))
+
+-- the bits whose data such bytes are
+abbrev pub data_bits : Bool → List ℕ → List Bool
+data_bits whole bytes = first_bits (data_bit_count whole bytes) bytes

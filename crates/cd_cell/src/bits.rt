@@ -1,5 +1,5 @@
 ghost use Rattle.std.specs.Prelude.{◌≡◌, ◌≢◌, ◌↔◌, ℕ, ◌+◌, ◌*◌, ◌%◌, ◌≤◌, ◌<◌, ◌==◌, Bool, List, Some, length, take, drop, slice_get, slice_index, IsSome, IfSome};
-ghost use Rattle.cd_cell.specs.BitText.{data_of, byte_count, first_bits, byte_of_bits, bits_of_byte, filled, IsBitData};
+ghost use Rattle.cd_cell.specs.BitText.{data_of, byte_count, first_bits, byte_of_bits, bits_of_byte, filled, data_bits, IsBitData};
 
 use crate::put::put;
 use std::fmt;
@@ -52,6 +52,7 @@ impl Bits {
     pub fn from_data(bytes: &[u8], whole: bool) -> Option<Bits>
         ensures found { IsSome result ↔ IsBitData whole bytes.now }
         ensures value { IfSome result (λ bits. data_of bits ≡ bytes.now) }
+        ensures read { IfSome result (λ bits. bits ≡ data_bits whole bytes.now) }
         ensures whole { IfSome result (λ bits. (length bits % 8 == 0) ≡ whole) }
         ensures only { (bits : List Bool) → length bits ≤ 1023 → data_of bits ≡ bytes.now → (length bits % 8 == 0) ≡ whole → result ≡ Some bits }
     {
