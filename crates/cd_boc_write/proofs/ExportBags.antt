@@ -1,17 +1,18 @@
 -- The export text of a tree as a bag: its cells unfold to the distinct cells of the tree, and each number has room.
-use Rattle.std.proofs.Common.{◌≡◌, ℕ, zero, suc, ◌+◌, ◌*◌, ◌^◌, ◌<◌, ◌≤◌, List, [], ◌∷◌, length, get_or, slice_index, drop, map, All, Contains, refl, ap, ap₂, sym, ◌∙◌, subst, add-zero, arith}
+use Rattle.std.proofs.Common.{◌≡◌, ℕ, zero, suc, ◌+◌, ◌*◌, ◌^◌, ◌<◌, ◌≤◌, List, [], ◌∷◌, length, get_or, slice_index, drop, map, All, Contains, None, flat_map, refl, ap, ap₂, sym, ◌∙◌, subst, add-zero, arith}
 use Rattle.std.proofs.lemmas.List.{length-append, length-map, get_or-map, get_or_default, drop_more, drop_all}
 use Rattle.std.proofs.lemmas.List.Elements.{Contains-get_or, All-map, All-head, All-tail}
 use Rattle.std.proofs.Math.Nat.{mul-le-mul_left}
 use Rattle.cd_base.specs.declared.hash.Hash256.{Hash256}
 use Rattle.cd_cell.specs.declared.new_cell.NewCell.{NewCell}
 use Rattle.cd_cell.specs.Infos.{rep_of_info}
-use Rattle.cd_cell.specs.Tree.{Tree, cell, Trees, no_trees, tree_and, trees_of, list_of, children, info_of, infos_of, face_of, rep_of, IsWellFormed}
+use Rattle.cd_cell.specs.Tree.{Tree, cell, Trees, no_trees, tree_and, trees_of, list_of, children, subtrees, info_of, infos_of, face_of, mask_of, rep_of, IsWellFormed}
 use Rattle.cd_cell.specs.GoodFace.{IsGoodFace}
 use Rattle.cd_cell.specs.Unfolding.{Entry, no_tree, behind, tree_of_entry, unfold_from, unfolding_of}
-use Rattle.cd_cell.specs.Export.{distinct_cells, IsClashFree}
+use Rattle.cd_cell.specs.Export.{distinct_cells, AreClashFree, IsClashFree}
 use Rattle.cd_cell.specs.Listings.{no_cell, listed_at, new_cell_of}
-use Rattle.cd_cell.proofs.Subtrees.{Contains-first, Contains-later, subtrees-subtree, child-is-subtree, kids-face_of, well_formed-subtree, IsGoodFace-face_of}
+use Rattle.cd_cell.proofs.Subtrees.{Contains-first, Contains-later, subtree-itself, flat_map-cases, flat_map-listed, info_of-face_of, subtrees-subtree, child-is-subtree, kids-face_of, well_formed-subtree, IsGoodFace-face_of}
+use Rattle.cd_cell.proofs.Heights.{IsSteady-info_of}
 use Rattle.cd_cell.proofs.Unfoldings.{behind-drop}
 use Rattle.cd_cell.proofs.ExportOrder.{AreDistinct-distinct_cells, Contains-distinct_cells, distinct_cells-one_place, distinct_cells-later, distinct_cells-first}
 use Rattle.cd_boc_write.specs.CellTexts.{Text, entries_of_texts, cell_text, texts_text}
@@ -162,6 +163,41 @@ module _ (H : List ℕ → Hash256) (t : Tree) (good : IsWellFormed H t) (clear 
   good-bag =
       All-map (λ c. IsGoodFace c.face) (new_cell_of H) all_cells
       (λ k d in'. subst (λ x. IsGoodFace (face_of H x)) (get_or_default all_cells k no_tree d in') (IsGoodFace-face_of H (get_or all_cells k no_tree) (well_formed-bag k in')))
+
+  -- the root is one of them
+  pub some-bag : 0 < length (distinct_cells H t)
+  some-bag = omega (arith, (Contains-distinct_cells H t clear t (subtree-itself t)).1)
+
+  -- what the texts state: bits and children are few, the mask is the cell's, and nothing is stored
+  pub few_bits-bag : (k : ℕ) (d : Text) → k < length (distinct_cells H t) → length (get_or (export_texts (map (new_cell_of H) (distinct_cells H t))) k d).entry.bits ≤ 1023
+  few_bits-bag k d in' =
+      let face = IsGoodFace-face_of H (get_or all_cells k no_tree) (well_formed-bag k in') in
+      omega (arith, ap (λ x. length x.entry.bits) (text-bag k d in'), face.bits)
+
+  pub few_refs-bag : (k : ℕ) (d : Text) → k < length (distinct_cells H t) → length (get_or (export_texts (map (new_cell_of H) (distinct_cells H t))) k d).entry.refs ≤ 4
+  few_refs-bag k d in' =
+      let c = get_or all_cells k no_tree in
+      let face = IsGoodFace-face_of H c (well_formed-bag k in') in
+      omega (arith, ap (λ x. length x.entry.refs) (text-bag k d in'), length-map (face_of H c).kids (λ kid. place_of bag_cells (rep_of_info kid)), face.kids)
+
+  pub mask-bag : (k : ℕ) (d : Text) → k < length (distinct_cells H t) → mask_of H (get_or (distinct_cells H t) k no_tree) ≡ (get_or (export_texts (map (new_cell_of H) (distinct_cells H t))) k d).mask
+  mask-bag k d in' = ap (λ i. i.mask) (info_of-face_of H (get_or all_cells k no_tree)) ∙ sym (ap (λ x. x.mask) (text-bag k d in'))
+
+  pub small_mask-bag : (k : ℕ) (d : Text) → k < length (distinct_cells H t) → (get_or (export_texts (map (new_cell_of H) (distinct_cells H t))) k d).mask ≤ 7
+  small_mask-bag k d in' = omega (arith, mask-bag k d in', (IsSteady-info_of H (get_or all_cells k no_tree) (well_formed-bag k in')).small)
+
+  pub stored-bag : (k : ℕ) (d : Text) → k < length (distinct_cells H t) → (get_or (export_texts (map (new_cell_of H) (distinct_cells H t))) k d).stored ≡ None
+  stored-bag k d in' = ap (λ x. x.stored) (text-bag k d in')
+
+  -- the cells are free of clashes, each with all below it
+  pub clear-bag : AreClashFree H (distinct_cells H t)
+  clear-bag a b in-a in-b rep =
+      let inside : (s : Tree) → Contains (flat_map subtrees all_cells) s → Contains (flat_map subtrees (t ∷ [])) s =
+      λ s h.
+      let found = flat_map-cases all_cells s h in
+      flat_map-listed (t ∷ []) t s (Contains-first t []) (subtrees-subtree t found.0 s ((AreDistinct-distinct_cells H t).within found.0 found.1) found.2)
+      in
+      clear a b (inside a in-a) (inside b in-b) rep
 
 -- ---- room for each number
 
