@@ -75,6 +75,14 @@ IsBytes-drop zero bytes h = h
 IsBytes-drop (suc n) [] h = h
 IsBytes-drop (suc n) (byte ∷ bytes) h = IsBytes-drop n bytes (λ k. h (suc k))
 
+pub IsBytes-cons : (byte : ℕ) (bytes : List ℕ) → byte < 256 → IsBytes bytes → IsBytes (byte ∷ bytes)
+IsBytes-cons byte bytes small h zero = small
+IsBytes-cons byte bytes small h (suc i) = h i
+
+pub IsBytes-append : (xs ys : List ℕ) → IsBytes xs → IsBytes ys → IsBytes (xs ++ ys)
+IsBytes-append [] ys h k = k
+IsBytes-append (x ∷ xs) ys h k = IsBytes-cons x (xs ++ ys) (h 0) (IsBytes-append xs ys (λ i. h (suc i)) k)
+
 -- ---- the spelling of the number read
 
 pub from_little-lt : (bytes : List ℕ) (n : ℕ) → IsBytes bytes → length bytes ≤ n → from_little bytes < 256 ^ n

@@ -11,7 +11,8 @@ use Rattle.cd_block.specs.declared.description.DescrFault.{DescrFault}
 use Rattle.cd_block.specs.declared.description.DescrFault.TheVariants.{Version, Cut, Form}
 use Rattle.cd_block.specs.Block.{IsBlockId, key_of, id_of}
 use Rattle.cd_block.specs.Reading.{◌>>=◌, version_at, byte_at, part_at, depth_at, ids_at}
-use Rattle.cd_block.proofs.Bytes.{IsBytes, IsBytes-take, IsBytes-drop, IsBytes-append}
+use Rattle.cd_base.specs.Numbers.{IsBytes}
+use Rattle.cd_base.proofs.NumberLaws.{IsBytes-take, IsBytes-drop, IsBytes-append}
 use Rattle.cd_block.proofs.Keys.{length-key_of, key_of-id_of, id_of-key_of, IsBlockId-id_of}
 
 abbrev done : {A : Type 0} → A → Result A DescrFault

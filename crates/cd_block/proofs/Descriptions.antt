@@ -14,7 +14,7 @@ use Rattle.cd_block.specs.Shard.{is_master}
 use Rattle.cd_block.specs.Block.{IsBlockId, key_of, id_of}
 use Rattle.cd_block.specs.Description.{ids_text, descr_text, IsDescr, IsDescrFit}
 use Rattle.cd_block.specs.Reading.{Gives, version_at, byte_at, part_at, depth_at, ids_at, most_tops, descr_in}
-use Rattle.cd_block.proofs.Bytes.{IsBytes}
+use Rattle.cd_base.specs.Numbers.{IsBytes}
 use Rattle.cd_block.proofs.Keys.{key_of-id_of, id_of-key_of, IsBlockId-id_of}
 use Rattle.cd_block.proofs.DescrFields.{by_ok, ok_is, met, version_takes, version_again, byte_takes, byte_again, part_takes, part_again, depth_takes, depth_again, ids_take, ids_again}
 

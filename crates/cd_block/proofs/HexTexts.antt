@@ -10,7 +10,7 @@ use Rattle.hex.specs.declared.error.FromHexError.{FromHexError}
 use Rattle.hex.specs.declared.error.FromHexError.TheVariants.{OddLength, InvalidStringLength}
 use Rattle.hex.proofs.HexLemmas.{decode_sized-encode_lower, decode_pairs-ok}
 use Rattle.cd_block.specs.Parsing.{is_upper_case, hex_of}
-use Rattle.cd_block.proofs.Bytes.{IsBytes}
+use Rattle.cd_base.specs.Numbers.{IsBytes}
 use Rattle.cd_block.proofs.Options.{refused, some_is}
 use Rattle.cd_block.proofs.Signs.{Lacks, same}
 

@@ -7,7 +7,9 @@ use Rattle.std.proofs.lemmas.List.{take_at, drop_at, length-append, length-take,
 use Rattle.std.proofs.Math.Seq.{take-add}
 use Rattle.cd_block.specs.declared.block.BlockId.{BlockId}
 use Rattle.cd_block.specs.Block.{IsHash, IsBlockId, key_of, shard_key, id_of}
-use Rattle.cd_block.proofs.Bytes.{IsBytes, IsBytes-take, IsBytes-drop, below_32, below_64}
+use Rattle.cd_base.specs.Numbers.{IsBytes}
+use Rattle.cd_base.proofs.NumberLaws.{IsBytes-take, IsBytes-drop}
+use Rattle.cd_block.proofs.Bytes.{below_32, below_64}
 use borrow.Rule.Slice.PartMut.{put_mid}
 
 -- a write behind the front

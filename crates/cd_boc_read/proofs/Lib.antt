@@ -1,5 +1,10 @@
 pub mod NumberFields
 pub mod Loops
+pub mod StoredTexts
+pub mod CellLoop
+pub mod LeastHashes
+pub mod ClashLaws
+pub mod StatedLaws
 pub mod FlagBits
 pub mod FieldLaws
 pub mod HeaderLaws
@@ -7,3 +12,4 @@ pub mod PartLaws
 pub mod TextLaws
 pub mod TextListLaws
 pub mod FrameLaws
+pub mod BagRead

@@ -1,6 +1,6 @@
 -- The grammar of bags of cells (TL-B, `serialized_boc`): whole texts, joined from the values of the header and the
 -- texts of the cells.
-use Rattle.std.specs.Prelude.{◌≡◌, ℕ, ◌+◌, ◌*◌, ◌/◌, ◌^◌, ◌<◌, ◌≤◌, Bool, true, false, List, [], length, map, slice_index, slice_index_or, Option, IfSome, if◌then◌else◌}
+use Rattle.std.specs.Prelude.{◌≡◌, ℕ, ◌+◌, ◌*◌, ◌/◌, ◌^◌, ◌<◌, ◌≤◌, true, false, List, [], length, map, slice_index, slice_index_or, IfSome, if◌then◌else◌}
 use Rattle.cd_base.specs.declared.hash.Hash256.{Hash256}
 use Rattle.cd_cell.specs.Masks.{bit_count}
 use Rattle.cd_cell.specs.Levels.{is_pruned}

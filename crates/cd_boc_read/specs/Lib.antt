@@ -2,3 +2,5 @@ pub mod Views
 pub mod Grammar
 pub mod CellFaults
 pub mod Reading
+pub mod BagFaults
+pub mod Clashes

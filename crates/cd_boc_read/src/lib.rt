@@ -4,10 +4,16 @@
 mod bag_fault;
 mod bag_text;
 mod cell_text;
+mod cells;
+mod clashes;
 mod counts;
 mod fields;
 mod frame;
 mod frame_text;
+mod laws;
+mod reading;
 mod texts;
 
 pub use bag_fault::BagFault;
+pub use laws::{a_bag_has_one_list_of_trees, bags_have_no_fault};
+pub use reading::read_bag;

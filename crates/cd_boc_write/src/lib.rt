@@ -1,6 +1,20 @@
 //! Bags of cells as text: their frame, the texts of their cells, and the one export text of a tree.
 #![tactic(auto)]
 
+mod cell_text;
+mod export;
+mod key;
+mod layout;
+mod numbers;
+mod places;
 mod shape;
+mod write_fault;
 
+pub use cell_text::put_cell;
+pub use export::{lay_out, write_bag};
+pub use layout::Layout;
 pub use shape::Shape;
+pub use write_fault::WriteFault;
+
+#[cfg(test)]
+mod tests;

@@ -17,3 +17,4 @@ pub mod Grafting
 pub mod AppliedUpdates
 pub mod NewCells
 pub mod Wanted
+pub mod DataBits

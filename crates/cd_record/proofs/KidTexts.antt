@@ -6,7 +6,7 @@ use Rattle.cd_cell.specs.declared.info.ChildInfo.{ChildInfo}
 use Rattle.cd_cell.specs.Masks.{is_significant}
 
 -- what f makes of the elements that pass, element by element
-flat_map-filter : {X : Type 0} (p : X → Bool) (f : X → List ℕ) (xs : List X) → flat_map f (filter p xs) ≡ flat_map (λ x. if p x then f x else []) xs
+pub flat_map-filter : {X : Type 0} (p : X → Bool) (f : X → List ℕ) (xs : List X) → flat_map f (filter p xs) ≡ flat_map (λ x. if p x then f x else []) xs
 flat_map-filter p f [] = refl
 flat_map-filter p f (x ∷ xs) = elim (p x) as (λ b. flat_map f (if b then x ∷ filter p xs else filter p xs) ≡ (if b then f x else []) ++ flat_map (λ x. if p x then f x else []) xs) [
   | true ↦ ap (λ ys. f x ++ ys) (flat_map-filter p f xs)

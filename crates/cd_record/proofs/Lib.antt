@@ -1,1 +1,7 @@
 pub mod KidTexts
+pub mod DataFaults
+pub mod KidLoop
+pub mod StoredLevels
+pub mod Fields
+pub mod KidReading
+pub mod RecordLaws

@@ -1,1 +1,3 @@
 pub mod RecordText
+pub mod RecordReading
+pub mod Records

@@ -1,0 +1,5 @@
+pub mod TextLaws
+pub mod HeaderLaws
+pub mod WidthLaws
+pub mod KeyLaws
+pub mod LayingLaws

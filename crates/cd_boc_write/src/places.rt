@@ -1,0 +1,54 @@
+ghost use Rattle.std.specs.Prelude.{◌≡◌, ◌≤◌, length, take, IfOk, List};
+ghost use Rattle.cd_cell.specs.declared.new_cell.NewCell.{NewCell};
+ghost use Rattle.cd_boc_write.specs.Exports.{place_of, refs_among};
+ghost use Rattle.cd_boc_write.specs.Keys.{AreKeysOf};
+
+use crate::key::Key;
+use cd_base::Hash256;
+use cd_cell::{ChildInfo, NewCell};
+use std::alloc::{AllocError, Global};
+
+// The keys of listed cells, in order.
+pub fn keys_of(alloc: Global, cells: &[NewCell]) -> Result<Vec<Key>, AllocError>
+    requires { length cells.now ≤ 1048576 }
+    ensures { IfOk result (λ keys. AreKeysOf cells.now keys.items) }
+{
+    let mut keys = Vec::with_capacity(alloc, cells.len())?;
+    for (place, cell) in cells.iter().enumerate() {
+        keys.push(Key {
+            hash: cell.hash,
+            place: place as u32,
+        })?;
+    }
+    keys.sort_unstable();
+    Ok(keys)
+}
+
+// The first place at which a hash is listed, or 0, by the keys of the listed cells.
+pub fn place_of(keys: &[Key], hash: &Hash256) -> u32
+    ensures { (cells : List NewCell) → AreKeysOf cells keys.now → result ≡ place_of cells hash.now }
+{
+    let first = Key {
+        hash: *hash,
+        place: 0,
+    };
+    match keys.binary_search(&first) {
+        Ok(_) => 0,
+        Err(at) => match keys.get(at) {
+            Some(key) if key.hash == *hash => key.place,
+            _ => 0,
+        },
+    }
+}
+
+// The places of what a cell's children show; behind them stand zeros.
+pub fn refs_of(keys: &[Key], kids: &[ChildInfo]) -> [u32; 4]
+    requires { length kids.now ≤ 4 }
+    ensures { (cells : List NewCell) → AreKeysOf cells keys.now → take (length kids.now) result ≡ refs_among cells kids.now }
+{
+    let mut refs = [0; 4];
+    for (at, kid) in kids.iter().enumerate() {
+        refs[at] = place_of(keys, &kid.rep());
+    }
+    refs
+}

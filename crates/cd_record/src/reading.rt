@@ -1,0 +1,235 @@
+ghost use Rattle.std.specs.Prelude.{◌≡◌, ℕ, ◌+◌, ◌*◌, ◌%◌, ◌≤◌, ◌<◌, length, take, IfOk};
+ghost use Rattle.cd_cell.specs.CellFaults.{fault_of};
+ghost use Rattle.cd_cell.specs.Masks.{bit_count};
+ghost use Rattle.cd_record.specs.declared.record.Record.{Record};
+ghost use Rattle.cd_record.specs.RecordText.{record_text};
+ghost use Rattle.cd_record.specs.Records.{IsRecord};
+ghost use Rattle.cd_record.specs.RecordReading as spec;
+ghost use Rattle.cd_record.specs.RecordReading.{Gives};
+
+use crate::record::Record;
+use crate::record_fault::RecordFault;
+use cd_base::Hash256;
+use cd_cell::{Bits, ChildInfo, Face, Mask};
+
+#[tactic(auto, unfolding(crate::specs::RecordReading::part_at))]
+fn part_at(len: usize, bytes: &[u8]) -> Result<(&[u8], &[u8]), RecordFault>
+    ensures read { Gives (λ x. (x.0.now, x.1.now)) result (spec.part_at len bytes.now) }
+    ensures long { IfOk result (λ x. length x.0.now ≡ len) }
+{
+    if bytes.len() < len {
+        return Err(RecordFault::Cut);
+    }
+    Ok(bytes.split_at(len))
+}
+
+#[tactic(auto, unfolding(crate::specs::RecordReading::byte_at))]
+fn byte_at(bytes: &[u8]) -> Result<(u8, &[u8]), RecordFault>
+    ensures read { Gives (λ x. (x.0, x.1.now)) result (spec.byte_at bytes.now) }
+    ensures small { IfOk result (λ x. x.0 < 256) }
+{
+    match bytes {
+        [] => Err(RecordFault::Cut),
+        [byte, rest @ ..] => Ok((*byte, rest)),
+    }
+}
+
+#[tactic(auto, unfolding(crate::specs::RecordReading::version_at))]
+fn version_at(bytes: &[u8]) -> Result<&[u8], RecordFault>
+    ensures { Gives (λ rest. rest.now) result (spec.version_at bytes.now) }
+{
+    let (version, rest) = byte_at(bytes)?;
+    if version != 1 {
+        return Err(RecordFault::Version { value: version });
+    }
+    Ok(rest)
+}
+
+#[tactic(auto, unfolding(crate::specs::RecordReading::count_at, crate::specs::RecordReading::part_at))]
+fn count_at(bytes: &[u8]) -> Result<(u32, &[u8]), RecordFault>
+    ensures { Gives (λ x. (x.0, x.1.now)) result (spec.count_at bytes.now) }
+{
+    let Some((part, rest)) = bytes.split_first_chunk::<4>() else {
+        return Err(RecordFault::Cut);
+    };
+    let count = u32::from_be_bytes(*part);
+    if count == 0 {
+        return Err(RecordFault::Form);
+    }
+    Ok((count, rest))
+}
+
+#[tactic(auto, unfolding(crate::specs::RecordReading::descriptor_at))]
+fn descriptor_at(bytes: &[u8]) -> Result<(u8, &[u8]), RecordFault>
+    ensures read { Gives (λ x. (x.0, x.1.now)) result (spec.descriptor_at bytes.now) }
+    ensures few { IfOk result (λ x. x.0 % 8 ≤ 4) }
+{
+    let (descriptor, rest) = byte_at(bytes)?;
+    if descriptor / 16 % 2 == 1 || descriptor % 8 > 4 {
+        return Err(RecordFault::Form);
+    }
+    Ok((descriptor, rest))
+}
+
+#[tactic(auto, unfolding(crate::specs::RecordReading::bits_at))]
+fn bits_at(bytes: &[u8]) -> Result<(Bits, &[u8]), RecordFault>
+    ensures { Gives (λ x. (x.0, x.1.now)) result (spec.bits_at bytes.now) }
+{
+    let (descriptor, rest) = byte_at(bytes)?;
+    let (part, rest) = part_at((descriptor as usize + 1) / 2, rest)?;
+    let Some(bits) = Bits::from_data(part, descriptor % 2 == 0) else {
+        return Err(RecordFault::Form);
+    };
+    Ok((bits, rest))
+}
+
+#[tactic(auto, unfolding(crate::specs::RecordReading::mask_at))]
+fn mask_at(bytes: &[u8]) -> Result<(Mask, &[u8]), RecordFault>
+    ensures { Gives (λ x. (x.0, x.1.now)) result (spec.mask_at bytes.now) }
+{
+    let (byte, rest) = byte_at(bytes)?;
+    let Some(mask) = Mask::of(byte) else {
+        return Err(RecordFault::Form);
+    };
+    Ok((mask, rest))
+}
+
+/// The hash at a level, among those at the significant levels.
+fn hash_in(mask: Mask, hashes: &[u8], level: u8) -> Hash256
+    requires level { level ≤ 3 }
+    requires long { length hashes.now ≡ 32 * (bit_count mask + 1) }
+    ensures { result ≡ spec.hash_in mask hashes.now level }
+{
+    let at = 32 * usize::from(mask.apply(level).count());
+    let part = &hashes[at..at + 32];
+    let mut hash = [0; 32];
+    hash.copy_from_slice(part);
+    Hash256(hash)
+}
+
+/// The depth at a level, among those at the significant levels.
+fn depth_in(mask: Mask, depths: &[u8], level: u8) -> u16
+    requires level { level ≤ 3 }
+    requires long { length depths.now ≡ 2 * (bit_count mask + 1) }
+    ensures { result ≡ spec.depth_in mask depths.now level }
+{
+    let at = 2 * usize::from(mask.apply(level).count());
+    let part = &depths[at..at + 2];
+    u16::from_be_bytes([part[0], part[1]])
+}
+
+/// What a child shows at all levels.
+fn info_in(mask: Mask, hashes: &[u8], depths: &[u8]) -> ChildInfo
+    requires hashes { length hashes.now ≡ 32 * (bit_count mask + 1) }
+    requires depths { length depths.now ≡ 2 * (bit_count mask + 1) }
+    ensures { result ≡ spec.info_in mask hashes.now depths.now }
+{
+    ChildInfo {
+        mask,
+        hashes: [
+            hash_in(mask, hashes, 0),
+            hash_in(mask, hashes, 1),
+            hash_in(mask, hashes, 2),
+            hash_in(mask, hashes, 3),
+        ],
+        depths: [
+            depth_in(mask, depths, 0),
+            depth_in(mask, depths, 1),
+            depth_in(mask, depths, 2),
+            depth_in(mask, depths, 3),
+        ],
+    }
+}
+
+#[tactic(auto, unfolding(crate::specs::RecordReading::kid_at))]
+fn kid_at(bytes: &[u8]) -> Result<(ChildInfo, &[u8]), RecordFault>
+    ensures { Gives (λ x. (x.0, x.1.now)) result (spec.kid_at bytes.now) }
+{
+    let (mask, rest) = match mask_at(bytes) {
+        Ok(found) => found,
+        Err(fault) => return Err(fault),
+    };
+    let levels = usize::from(mask.count()) + 1;
+    let (hashes, rest) = part_at(32 * levels, rest)?;
+    let (depths, rest) = part_at(2 * levels, rest)?;
+    Ok((info_in(mask, hashes, depths), rest))
+}
+
+/// The children, with a filler behind them.
+fn kids_at(count: u8, bytes: &[u8]) -> Result<([ChildInfo; 4], &[u8]), RecordFault>
+    requires { count ≤ 4 }
+    ensures { Gives (λ x. (take count x.0, x.1.now)) result (spec.kids_at count bytes.now) }
+{
+    let mut kids = [NO_KID; 4];
+    let mut rest = bytes;
+    for place in 0..count {
+        let (kid, after) = match kid_at(rest) {
+            Ok(found) => found,
+            Err(fault) => return Err(fault),
+        };
+        kids[usize::from(place)] = kid;
+        rest = after;
+    }
+    Ok((kids, rest))
+}
+
+/// What stands where no child is.
+const NO_KID: ChildInfo = ChildInfo {
+    mask: Mask::NONE,
+    hashes: [Hash256([0; 32]); 4],
+    depths: [0; 4],
+};
+
+/// A record, unless its face is at fault or another mask is stated.
+fn judged(count: u32, mask: u8, face: Face) -> Result<Record, RecordFault>
+    ensures { Gives (λ found. found) result (spec.judged count mask face (fault_of face)) }
+{
+    if let Err(fault) = face.check() {
+        return Err(RecordFault::Cell { fault });
+    }
+    if face.mask().byte() != mask {
+        return Err(RecordFault::Form);
+    }
+    Ok(Record {
+        count: u64::from(count),
+        face,
+    })
+}
+
+/// The record that the bytes spell, all of them.
+#[tactic(auto, unfolding(crate::specs::RecordReading::record_in))]
+fn record_at(bytes: &[u8]) -> Result<Record, RecordFault>
+    ensures { Gives (λ found. found) result (spec.record_in bytes.now) }
+{
+    let rest = version_at(bytes)?;
+    let (count, rest) = count_at(rest)?;
+    let (descriptor, rest) = descriptor_at(rest)?;
+    let (bits, rest) = match bits_at(rest) {
+        Ok(found) => found,
+        Err(fault) => return Err(fault),
+    };
+    let refs = descriptor % 8;
+    let (kids, rest) = match kids_at(refs, rest) {
+        Ok(found) => found,
+        Err(fault) => return Err(fault),
+    };
+    if !rest.is_empty() {
+        return Err(RecordFault::Extra);
+    }
+    let face = Face::new(descriptor / 8 % 2 == 1, bits, &kids[..usize::from(refs)]);
+    judged(count, descriptor / 32, face)
+}
+
+/// Reads a stored record. Takes no memory.
+pub fn decode(bytes: &[u8]) -> Result<Record, RecordFault>
+    // What is read is spelled so.
+    ensures found { IfOk result (λ found. IsRecord found × (bytes.now ≡ record_text found.count found.face)) }
+
+    // What is spelled so is read.
+    ensures only { (known : Record) → IsRecord known → bytes.now ≡ record_text known.count known.face → result ≡ Ok known }
+
+    // Which fault it is.
+    ensures exact { result ≡ spec.record_in bytes.now }
+{
+    record_at(bytes)
+}
