@@ -13,8 +13,7 @@ ghost use Rattle.cd_boc_read.specs.BagFaults.{AreTexts, Answers};
 
 use crate::BagFault;
 use crate::cell_text::CellText;
-use cd_base::Hash256;
-use cd_cell::{ChildInfo, Face, Hash32, Mask, face_info};
+use cd_cell::{ChildInfo, Face, Hash32, face_info};
 use std::alloc::Global;
 
 /// The faces of the cells of a bag, and what they show of themselves.
@@ -35,14 +34,9 @@ pub(crate) fn cells_of<H: Hash32>(alloc: Global, texts: &[CellText]) -> Result<C
     ensures exact { Answers (cells_fault H.digest_of 0 (text_views texts.now) (faces_from H.digest_of 0 (entries_of_texts (text_views texts.now)))) result }
 {
     let count = texts.len();
-    let none = ChildInfo {
-        mask: Mask::NONE,
-        hashes: [Hash256([0; 32]); 4],
-        depths: [0; 4],
-    };
     // Faces are put together where they lie: one takes about 700 bytes.
     let mut faces = vec![in alloc; Face::new(false, texts[0].bits, &[]); count]?;
-    let mut infos = vec![in alloc; none; count]?;
+    let mut infos = vec![in alloc; ChildInfo::NONE; count]?;
     let mut left = count;
     while left > 0 {
         left -= 1;
