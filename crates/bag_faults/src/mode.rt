@@ -1,0 +1,72 @@
+ghost use Rattle.std.specs.Prelude.{◌≡◌, ◌≢◌, ◌↔◌, [], ◌∷◌, Some, map, string_bytes, codes};
+
+/// What the program is asked for.
+#[derive(Clone, Copy, Debug, PartialEq, Eq)]
+pub enum Mode {
+    /// A line for each line of standard input.
+    Lines,
+    /// One line for all of standard input.
+    Raw,
+    /// The text of `--help`.
+    Help,
+}
+
+/// What `--help` prints.
+pub const HELP: &str = "\
+Says of bags of cells what they have, or why they are refused.
+
+    bag_faults          reads a bag in hexadecimal from each line of standard input
+    bag_faults --raw    reads one bag from standard input, as bytes
+    bag_faults --help   prints this text
+
+For each bag it prints a line: `ok roots N cells M`, or the first fault with its fields.
+";
+
+impl Mode {
+    /// The mode that these words ask for; `None` where they are no words of the program.
+    pub fn of(words: &[String]) -> Option<Mode>
+        ensures lines { (result ≡ Some Mode.Lines) ↔ (words.now ≡ []) }
+        ensures raw { (result ≡ Some Mode.Raw) ↔ (map string_bytes words.now ≡ codes "--raw" ∷ []) }
+    {
+        match words {
+            [] => Some(Mode::Lines),
+            [word] => Mode::of_word(word.as_str()),
+            _ => None,
+        }
+    }
+
+    fn of_word(word: &str) -> Option<Mode>
+        ensures lines { result ≢ Some Mode.Lines }
+        ensures raw { (result ≡ Some Mode.Raw) ↔ (word.now ≡ codes "--raw") }
+    {
+        match word {
+            "--raw" => Some(Mode::Raw),
+            "--help" | "-h" => Some(Mode::Help),
+            _ => None,
+        }
+    }
+}
+
+#[cfg(test)]
+mod tests {
+    use super::*;
+    use std::alloc::Global;
+    use std::test::Fail;
+
+    fn mode(alloc: Global, word: &str) -> Result<Option<Mode>, Fail> {
+        let mut words = Vec::new(alloc);
+        words.push(String::from_str(alloc, word)?)?;
+        Ok(Mode::of(&words))
+    }
+
+    #[test]
+    fn words_are_known_or_not(rt: HostRuntime) -> Result<(), Fail> {
+        let alloc = rt.alloc();
+        assert_eq!(rt; Mode::of(&[]), Some(Mode::Lines));
+        assert_eq!(rt; mode(alloc, "--raw")?, Some(Mode::Raw));
+        assert_eq!(rt; mode(alloc, "--help")?, Some(Mode::Help));
+        assert_eq!(rt; mode(alloc, "raw")?, None);
+        assert_eq!(rt; mode(alloc, "")?, None);
+        Ok(())
+    }
+}
