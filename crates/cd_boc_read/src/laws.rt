@@ -1,6 +1,6 @@
 //! What holds of all bags of cells, as contracts of functions that do nothing.
 
-ghost use Rattle.std.specs.Prelude.{◌≡◌, ◌≤◌, ℕ, [], ◌∷◌, List, length, None};
+ghost use Rattle.std.specs.Prelude.{◌≡◌, ℕ, ◌≤◌, List, [], ◌∷◌, length, None};
 ghost use Rattle.cd_base.specs.Numbers.{IsBytes};
 ghost use Rattle.cd_base.specs.declared.hash.Hash256.{Hash256};
 ghost use Rattle.cd_cell.specs.Tree.{Tree, IsWellFormed};
@@ -23,9 +23,8 @@ pub fn a_bag_has_one_list_of_trees()
         → Spells H bytes trees → Spells H bytes others → trees ≡ others }
 {}
 
-/// The export text of a well-formed tree that is free of clashes and has at most 1,048,576 distinct cells is a bag of
-/// that tree alone.
+/// The export text of a tree of at most 1,048,576 cells, well-formed and free of clashes, is a bag of that tree.
 pub fn an_export_is_a_bag_of_its_tree()
-    ensures { (H : List ℕ → Hash256) (t : Tree) → IsWellFormed H t → IsClashFree H t
-        → length (distinct_cells H t) ≤ 1048576 → Spells H (bag_of H t) (t ∷ []) }
+    ensures { (H : List ℕ → Hash256) (tree : Tree) → IsWellFormed H tree → IsClashFree H tree
+        → length (distinct_cells H tree) ≤ 1048576 → Spells H (bag_of H tree) (tree ∷ []) }
 {}
