@@ -7,6 +7,8 @@ pub enum Mode {
     Lines,
     /// One line for all of standard input.
     Raw,
+    /// The export text of the one root, for all of standard input.
+    Export,
     /// The text of `--help`.
     Help,
 }
@@ -17,6 +19,7 @@ Says of bags of cells what they have, or why they are refused.
 
     bag_faults          reads a bag in hexadecimal from each line of standard input
     bag_faults --raw    reads one bag from standard input, as bytes
+    bag_faults --export reads one bag as bytes, and writes the export text of its one root
     bag_faults --help   prints this text
 
 For each bag it prints a line: `ok roots N cells M`, or the first fault with its fields.
@@ -41,6 +44,7 @@ impl Mode {
     {
         match word {
             "--raw" => Some(Mode::Raw),
+            "--export" => Some(Mode::Export),
             "--help" | "-h" => Some(Mode::Help),
             _ => None,
         }
