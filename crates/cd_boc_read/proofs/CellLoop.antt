@@ -1,5 +1,5 @@
 -- Faces filled from the last cell downwards, with the first fault on that way.
-use Rattle.std.proofs.Common.{◌≡◌, ℕ, zero, suc, ◌+◌, ◌<◌, ◌≤◌, List, [], ◌∷◌, length, get_or, set, drop, map, Some, None, refl, sym, ap, ap₂, subst, ◌∙◌, ⊎_elim, arith}
+use Rattle.std.proofs.Common.{◌≡◌, ℕ, zero, suc, ◌+◌, ◌<◌, ◌≤◌, List, [], ◌∷◌, length, replicate, get_or, set, drop, map, Some, None, refl, sym, ap, ap₂, subst, ◌∙◌, ⊎_elim, arith}
 use Rattle.std.specs.Option.{option_or}
 use Rattle.std.proofs.lemmas.Bool.{cases_lt}
 use Rattle.std.proofs.lemmas.List.{length-map, get_or-map, same_lists, drop_all, drop_more, drop-set, length-set, get_or-set_other}
@@ -33,6 +33,11 @@ length-entries ts = length-map ts (λ (t : Text). t.entry)
 
 pub entry_at : (ts : List Text) (i : ℕ) (t : Text) → i < length ts → get_or ts i t ≡ t → get_or (entries_of_texts ts) i t.entry ≡ t.entry
 entry_at ts i t below at = get_or-map (λ (t : Text). t.entry) ts i t t.entry below ∙ ap (λ (t : Text). t.entry) at
+
+bare_at : (n : ℕ) (face : FaceView) → face.kids ≡ [] → (k : ℕ) → (get_or (replicate n face) k no_face).kids ≡ []
+bare_at zero face bare k = refl
+bare_at (suc n) face bare zero = bare
+bare_at (suc n) face bare (suc k) = bare_at n face bare k
 
 -- ---- faults of the cells behind a cell
 
@@ -83,10 +88,11 @@ module _ (H : List ℕ → Hash256) where
     pub faces_are : drop left faces ≡ faces_from H left (drop left (entries_of_texts ts))
     pub infos_are : drop left infos ≡ infos_from H left (drop left (entries_of_texts ts))
     pub good : (k : ℕ) → left ≤ k → k < length ts → IsGoodFace (face_at faces k)
+    pub bare : (k : ℕ) → k < left → (face_at faces k).kids ≡ []
     pub sound : cells_fault H left (drop left ts) (drop left faces) ≡ None
 
-  pub filled_none : (ts : List Text) (left : ℕ) (faces : List FaceView) (infos : List ChildInfo) → left ≡ length ts → length faces ≡ length ts → length infos ≡ length ts → AreFilled ts left faces infos
-  filled_none ts left faces infos at long-faces long-infos =
+  pub filled_none : (ts : List Text) (left : ℕ) (faces : List FaceView) (infos : List ChildInfo) → left ≡ length ts → length faces ≡ length ts → length infos ≡ length ts → ((k : ℕ) → k < left → (face_at faces k).kids ≡ []) → AreFilled ts left faces infos
+  filled_none ts left faces infos at long-faces long-infos bare =
       let es = entries_of_texts ts in
       let none : drop left es ≡ [] = drop_all left es (omega (arith, length-entries ts)) in
       record {
@@ -96,6 +102,7 @@ module _ (H : List ℕ → Hash256) where
         faces_are = drop_all left faces (omega arith) ∙ sym (faces_from-end H left) ∙ ap (faces_from H left) (sym none);
         infos_are = drop_all left infos (omega arith) ∙ sym (infos_from-end H left) ∙ ap (infos_from H left) (sym none);
         good = λ k from below. absurd (omega (arith, from, below));
+        bare = bare;
         sound = ap (λ (xs : List Text). cells_fault H left xs (drop left faces)) (drop_all left ts (omega arith)) ∙ cells_fault-nil left (drop left faces);
       }
 
@@ -154,5 +161,10 @@ module _ (H : List ℕ → Hash256) where
               (λ early.
               subst IsGoodFace (sym (get_or-set_at faces i k face no_face (omega (arith, from, early)) (omega (arith, so_far.long_faces, below)))) good)
               (cases_lt i k);
+          bare = λ k early. ap (λ (f : FaceView). f.kids) (get_or-set_other faces i k face no_face (λ (same : k ≡ i). omega (arith, early, same))) ∙ so_far.bare k (omega (arith, early));
           sound = fault-more ∙ none;
         }
+
+-- faces without children, all of them one face
+pub bare_all : (n : ℕ) (face : FaceView) (faces : List FaceView) → faces ≡ replicate n face → face.kids ≡ [] → (k : ℕ) → (face_at faces k).kids ≡ []
+bare_all n face faces all bare k = ap (λ fs. (get_or fs k no_face).kids) all ∙ bare_at n face bare k

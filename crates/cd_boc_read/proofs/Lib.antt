@@ -13,3 +13,4 @@ pub mod TextLaws
 pub mod TextListLaws
 pub mod FrameLaws
 pub mod BagRead
+pub mod ExportLaws

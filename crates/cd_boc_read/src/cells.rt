@@ -13,8 +13,7 @@ ghost use Rattle.cd_boc_read.specs.BagFaults.{AreTexts, Answers};
 
 use crate::BagFault;
 use crate::cell_text::CellText;
-use cd_base::Hash256;
-use cd_cell::{ChildInfo, Face, Hash32, Mask, face_info};
+use cd_cell::{ChildInfo, Face, Hash32, face_info};
 use std::alloc::Global;
 
 /// The faces of the cells of a bag, and what they show of themselves.
@@ -35,57 +34,33 @@ pub(crate) fn cells_of<H: Hash32>(alloc: Global, texts: &[CellText]) -> Result<C
     ensures exact { Answers (cells_fault H.digest_of 0 (text_views texts.now) (faces_from H.digest_of 0 (entries_of_texts (text_views texts.now)))) result }
 {
     let count = texts.len();
-    let none = ChildInfo {
-        mask: Mask::NONE,
-        hashes: [Hash256([0; 32]); 4],
-        depths: [0; 4],
-    };
+    // Faces are put together where they lie: one takes about 700 bytes.
     let mut faces = vec![in alloc; Face::new(false, texts[0].bits, &[]); count]?;
-    let mut infos = vec![in alloc; none; count]?;
+    let mut infos = vec![in alloc; ChildInfo::NONE; count]?;
     let mut left = count;
     while left > 0 {
         left -= 1;
         let text = &texts[left];
-        let face = face_over(text, infos.as_slice());
-        match info_of::<H>(left as u32, text, &face) {
+        let face = &mut faces[left];
+        put_face(face, text, infos.as_slice());
+        match info_of::<H>(left as u32, text, face) {
             Ok(info) => infos[left] = info,
             Err(fault) => return Err(fault),
         }
-        faces[left] = face;
     }
     Ok(Cells { faces, infos })
 }
 
-/// The face of a cell, by what all cells show.
-fn face_over(text: &CellText, infos: &[ChildInfo]) -> Face
+/// Puts together the face of a cell, by what all cells show, where an empty one stands.
+fn put_face(face: &mut Face, text: &CellText, infos: &[ChildInfo])
+    requires bare { face.old.kids ≡ [] }
     requires few { length (text_view text.now).entry.refs ≤ 4 }
     requires there { (p : ℕ) → p < length (text_view text.now).entry.refs → slice_index (text_view text.now).entry.refs p < length infos.now }
-    ensures { result ≡ record { exotic = text.now.exotic; bits = text.now.bits; kids = map (λ r. slice_index_or infos.now r no_info) (text_view text.now).entry.refs } }
+    ensures { face.new ≡ record { exotic = text.now.exotic; bits = text.now.bits; kids = map (λ r. slice_index_or infos.now r no_info) (text_view text.now).entry.refs } }
 {
-    match text.children() {
-        [] => Face::new(text.exotic, text.bits, &[]),
-        [a] => Face::new(text.exotic, text.bits, &[infos[*a as usize]]),
-        [a, b] => Face::new(
-            text.exotic,
-            text.bits,
-            &[infos[*a as usize], infos[*b as usize]],
-        ),
-        [a, b, c] => Face::new(
-            text.exotic,
-            text.bits,
-            &[infos[*a as usize], infos[*b as usize], infos[*c as usize]],
-        ),
-        [a, b, c, d] => Face::new(
-            text.exotic,
-            text.bits,
-            &[
-                infos[*a as usize],
-                infos[*b as usize],
-                infos[*c as usize],
-                infos[*d as usize],
-            ],
-        ),
-        _ => unreachable!(),
+    face.set_data(text.exotic, &text.bits);
+    for child in text.children() {
+        face.push(&infos[*child as usize]);
     }
 }
 

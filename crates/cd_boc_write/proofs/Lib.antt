@@ -3,3 +3,4 @@ pub mod HeaderLaws
 pub mod WidthLaws
 pub mod KeyLaws
 pub mod LayingLaws
+pub mod ExportBags

@@ -1,5 +1,5 @@
 -- Laws of the texts of cells: how long they are, and where they end.
-use Rattle.std.proofs.Common.{◌≡◌, ℕ, zero, suc, ◌+◌, ◌*◌, ◌-◌, ◌<◌, List, [], ◌∷◌, ◌++◌, length, get_or, refl, ap, ap₂, sym, ◌∙◌, append_assoc, append-nil, arith}
+use Rattle.std.proofs.Common.{◌≡◌, ℕ, zero, suc, ◌+◌, ◌*◌, ◌-◌, ◌<◌, ◌≤◌, List, [], ◌∷◌, ◌++◌, length, get_or, refl, ap, ap₂, sym, ◌∙◌, append_assoc, append-nil, arith}
 use Rattle.std.specs.Prelude.{if◌then◌else◌}
 use Rattle.std.proofs.lemmas.List.{length-append}
 use Rattle.std.proofs.lemmas.List.Concat.{flat_map-append}
@@ -74,6 +74,14 @@ ends_from-rising size start [] j k below in' = absurd (omega arith)
 ends_from-rising size start (t ∷ ts) j zero below in' = absurd (omega arith)
 ends_from-rising size start (t ∷ ts) zero (suc k) below in' = ends_from-above size (start + length (cell_text size t)) ts k (omega arith)
 ends_from-rising size start (t ∷ ts) (suc j) (suc k) below in' = ends_from-rising size (start + length (cell_text size t)) ts j k (omega arith) (omega arith)
+
+-- and none is behind the last
+pub ends_from-within : (size start : ℕ) (ts : List Text) (k : ℕ) → k < length ts → get_or (ends_from size start ts) k 0 ≤ start + length (texts_text size ts)
+unfolding ends_from
+ends_from-within size start [] k in' = absurd (omega arith)
+ends_from-within size start (t ∷ ts) zero in' = omega (arith, length-append (cell_text size t) (texts_text size ts))
+ends_from-within size start (t ∷ ts) (suc k) in' =
+    omega (arith, length-append (cell_text size t) (texts_text size ts), ends_from-within size (start + length (cell_text size t)) ts k (omega arith))
 
 -- the last end is where all texts together end
 last_end : (size start : ℕ) (ts : List Text) → get_or (start ∷ ends_from size start ts) (length ts) 0 ≡ start + length (texts_text size ts)

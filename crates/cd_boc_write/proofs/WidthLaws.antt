@@ -19,3 +19,7 @@ width_of-fits n few = grind (arith, nat_tests)
 pub width_of-most : (n : ℕ) → width_of n ≤ 8
 unfolding width_of
 width_of-most n = grind (arith, nat_tests)
+
+pub width_of-room : (n : ℕ) → n < 256 ^ 8 → n < 256 ^ width_of n
+unfolding width_of
+width_of-room n small = grind (arith, nat_tests)

@@ -42,7 +42,7 @@ fn add_cell(out: &mut Vec<u8>, face: &Face, refs: &[u32], size: u8) -> Result<()
     put_numbers(out, refs, size)
 }
 
-// The bytes of a cell's text.
+/// The bytes of a cell's text.
 pub fn text_len(face: &Face, size: u8) -> u64
     requires { size ≤ 4 }
     ensures value { result ≡ 2 + byte_count (length face.now.bits) + size * length face.now.kids }

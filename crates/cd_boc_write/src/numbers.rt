@@ -7,7 +7,7 @@ ghost use Rattle.cd_boc_write.specs.Exports.{width_of};
 use std::alloc::AllocError;
 
 #[tactic(auto, unfolding(crate::specs::Exports::width_of))]
-// The least number of bytes, from 1 to 8, in which a number has room.
+/// The least number of bytes, from 1 to 8, in which a number has room.
 pub fn width_of(value: u64) -> u8
     ensures value { result ≡ width_of value }
     ensures some { 1 ≤ result }
@@ -25,7 +25,7 @@ pub fn width_of(value: u64) -> u8
     }
 }
 
-// Adds the lowest bytes of a number, the highest of them first.
+/// Adds the lowest bytes of a number, the highest of them first.
 pub fn put_number(out: &mut Vec<u8>, value: u64, width: u8) -> Result<(), AllocError>
     requires { width ≤ 8 }
     ensures ok { OnOk result (out.new.items ≡ out.old.items ++ big width value) }
@@ -35,7 +35,7 @@ pub fn put_number(out: &mut Vec<u8>, value: u64, width: u8) -> Result<(), AllocE
     out.extend_from_slice(&bytes[8 - usize::from(width)..])
 }
 
-// Adds the numbers of cells.
+/// Adds the numbers of cells.
 pub fn put_numbers(out: &mut Vec<u8>, numbers: &[u32], width: u8) -> Result<(), AllocError>
     requires { width ≤ 8 }
     ensures ok { OnOk result (out.new.items ≡ out.old.items ++ numbers_text width numbers.now) }
@@ -47,7 +47,7 @@ pub fn put_numbers(out: &mut Vec<u8>, numbers: &[u32], width: u8) -> Result<(), 
     Ok(())
 }
 
-// Adds offsets in the cell data.
+/// Adds offsets in the cell data.
 pub fn put_offsets(out: &mut Vec<u8>, offsets: &[u64], width: u8) -> Result<(), AllocError>
     requires { width ≤ 8 }
     ensures { OnOk result (out.new.items ≡ out.old.items ++ numbers_text width offsets.now) }

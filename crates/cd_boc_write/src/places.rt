@@ -8,7 +8,7 @@ use cd_base::Hash256;
 use cd_cell::{ChildInfo, NewCell};
 use std::alloc::{AllocError, Global};
 
-// The keys of listed cells, in order.
+/// The keys of listed cells, in order.
 pub fn keys_of(alloc: Global, cells: &[NewCell]) -> Result<Vec<Key>, AllocError>
     requires { length cells.now ≤ 1048576 }
     ensures { IfOk result (λ keys. AreKeysOf cells.now keys.items) }
@@ -24,7 +24,7 @@ pub fn keys_of(alloc: Global, cells: &[NewCell]) -> Result<Vec<Key>, AllocError>
     Ok(keys)
 }
 
-// The first place at which a hash is listed, or 0, by the keys of the listed cells.
+/// The first place at which a hash is listed, or 0, by the keys of the listed cells.
 pub fn place_of(keys: &[Key], hash: &Hash256) -> u32
     ensures { (cells : List NewCell) → AreKeysOf cells keys.now → result ≡ place_of cells hash.now }
 {
@@ -41,7 +41,7 @@ pub fn place_of(keys: &[Key], hash: &Hash256) -> u32
     }
 }
 
-// The places of what a cell's children show; behind them stand zeros.
+/// The places of what a cell's children show; behind them stand zeros.
 pub fn refs_of(keys: &[Key], kids: &[ChildInfo]) -> [u32; 4]
     requires { length kids.now ≤ 4 }
     ensures { (cells : List NewCell) → AreKeysOf cells keys.now → take (length kids.now) result ≡ refs_among cells kids.now }

@@ -1,4 +1,4 @@
-ghost use Rattle.std.specs.Prelude.{◌≡◌, ◌↔◌, ◌≤◌, ◌<◌, length, slice_get, IsSome};
+ghost use Rattle.std.specs.Prelude.{◌≡◌, ◌↔◌, ◌≤◌, ◌<◌, [], ◌∷◌, ◌++◌, length, slice_get, IsSome};
 ghost use Rattle.std.specs.Option.{option_copied};
 
 use crate::{Bits, ChildInfo};
@@ -43,6 +43,23 @@ impl Face {
             refs: kids.len() as u8,
             kids: four,
         }
+    }
+
+    /// Gives the face this flag and these bits.
+    pub fn set_data(&mut self, exotic: bool, bits: &Bits)
+        ensures { self.new ≡ record { exotic = exotic; bits = bits.now; kids = self.old.kids } }
+    {
+        self.exotic = exotic;
+        self.bits = *bits;
+    }
+
+    /// Puts a child behind the others.
+    pub fn push(&mut self, kid: &ChildInfo)
+        requires { length self.old.kids < 4 }
+        ensures { self.new ≡ record { exotic = self.old.exotic; bits = self.old.bits; kids = self.old.kids ++ kid.now ∷ [] } }
+    {
+        self.kids[self.refs as usize] = *kid;
+        self.refs += 1;
     }
 
     /// Whether the cell is exotic.

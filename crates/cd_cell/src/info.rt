@@ -17,8 +17,8 @@ pub struct ChildInfo {
 }
 
 impl ChildInfo {
-    // What stands where no child is.
-    pub(crate) const NONE: ChildInfo = ChildInfo {
+    /// What stands where no child is: no level, and zeros.
+    pub const NONE: ChildInfo = ChildInfo {
         mask: Mask::NONE,
         hashes: [Hash256([0; 32]); 4],
         depths: [0; 4],

@@ -160,7 +160,7 @@ fn kids_at(count: u8, bytes: &[u8]) -> Result<([ChildInfo; 4], &[u8]), RecordFau
     requires { count ≤ 4 }
     ensures { Gives (λ x. (take count x.0, x.1.now)) result (spec.kids_at count bytes.now) }
 {
-    let mut kids = [NO_KID; 4];
+    let mut kids = [ChildInfo::NONE; 4];
     let mut rest = bytes;
     for place in 0..count {
         let (kid, after) = match kid_at(rest) {
@@ -172,13 +172,6 @@ fn kids_at(count: u8, bytes: &[u8]) -> Result<([ChildInfo; 4], &[u8]), RecordFau
     }
     Ok((kids, rest))
 }
-
-/// What stands where no child is.
-const NO_KID: ChildInfo = ChildInfo {
-    mask: Mask::NONE,
-    hashes: [Hash256([0; 32]); 4],
-    depths: [0; 4],
-};
 
 /// A record, unless its face is at fault or another mask is stated.
 fn judged(count: u32, mask: u8, face: Face) -> Result<Record, RecordFault>

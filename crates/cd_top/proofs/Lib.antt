@@ -3,3 +3,4 @@ pub mod OwnerLaws
 pub mod HeldLaws
 pub mod Lift
 pub mod OnceLaws
+pub mod StateLaws

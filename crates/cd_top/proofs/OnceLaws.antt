@@ -1,4 +1,4 @@
--- Storing a plain bag's state in an empty keeper ends as the table of ends says.
+-- Storing a bag's state in an empty keeper ends as the table of ends says.
 use Rattle.std.proofs.Common.{◌≡◌, ℕ, ◌≤◌, length, false, List, [], Option, Some, None, refl, ap, subst, ◌∙◌}
 use Rattle.std.specs.Prelude.{IfSome}
 use Rattle.std.specs.Option.{option_map}
@@ -6,13 +6,14 @@ use Rattle.cd_base.specs.declared.hash.Hash256.{Hash256}
 use Rattle.cd_base.specs.Told.{Got, GotPart}
 use Rattle.cd_cell.specs.Tree.{Tree, rep_of}
 use Rattle.cd_keeper.specs.Contents.{Contents, Change, changed, no_contents}
-use Rattle.cd_plain.specs.PlainBags.{IsPlainBag}
 use Rattle.cd_world.specs.Image.{change_of, image_of}
 use Rattle.cd_world.proofs.Puts.{changed-change_of}
 use Rattle.cd_top.specs.declared.status.Status.{Status}
 use Rattle.cd_top.specs.declared.status.Status.TheVariants as status
+use Rattle.cd_top.specs.declared.status.InputFault.TheVariants as input
+use Rattle.cd_top.specs.declared.status.TopRefusal.TheVariants as refusal
 use Rattle.cd_top.specs.Zero.{zero_id, zero_world, zero_text}
-use Rattle.cd_top.specs.ZeroCall.{Ends, IsStoring}
+use Rattle.cd_top.specs.ZeroCall.{Seen, IsUntouched, IsInput, IsStateBag, IsRefusal, Ends, IsStoring}
 
 module _ (H : List ℕ → Hash256) where
   -- what the change makes of empty contents is the image
@@ -29,7 +30,7 @@ module _ (H : List ℕ → Hash256) where
     pub ends-from_storing : (left left_after : Option (List ℕ)) (read_faults read_faults_after : ℕ) (old new : K) (taken taken_after : Option (List ℕ)) (write_faults write_faults_after : ℕ)
         → (change : Change) (text bytes : List ℕ) (state : Tree) (end : Status)
         → IfSome (held old) (λ contents. contents ≡ no_contents) → IfSome left (λ all. all ≡ bytes) → IfSome left_after (λ rest. rest ≡ []) → length bytes ≤ 134217728
-        → IsPlainBag H bytes state → change ≡ change_of H (zero_world H state) → text ≡ zero_text H state
+        → IsStateBag H bytes state → change ≡ change_of H (zero_world H state) → text ≡ zero_text H state
         → IsStoring change text held trail batches faults old new taken taken_after write_faults write_faults_after end
         → Ends H (record {
           left = left;
@@ -81,3 +82,16 @@ module _ (H : List ℕ → Hash256) where
     ends-from_storing left left_after rf rfa old new taken taken_after wf wfa change text bytes state (status.Usage fault) empty all at_end within bag is printed e = e
     ends-from_storing left left_after rf rfa old new taken taken_after wf wfa change text bytes state (status.BadInput fault) empty all at_end within bag is printed e = absurd e
     ends-from_storing left left_after rf rfa old new taken taken_after wf wfa change text bytes state status.ReadFault empty all at_end within bag is printed e = absurd e
+    ends-from_storing left left_after rf rfa old new taken taken_after wf wfa change text bytes state (status.Refused refusal) empty all at_end within bag is printed e = absurd e
+
+  -- bytes that are no bag of a state end as the table says
+  pub ends-refused : (s : Seen) (bytes : List ℕ) (end : Status) → IsInput s bytes → IsUntouched s → IsRefusal H bytes end → Ends H s end
+  ends-refused s bytes status.Ok input same refused = absurd refused
+  ends-refused s bytes (status.Usage fault) input same refused = refused
+  ends-refused s bytes (status.BadInput (input.Long limit)) input same refused = absurd refused
+  ends-refused s bytes (status.BadInput (input.Bag fault)) input same refused = (bytes, input, refused, same)
+  ends-refused s bytes status.ReadFault input same refused = absurd refused
+  ends-refused s bytes status.WriteFault input same refused = absurd refused
+  ends-refused s bytes status.KeeperFault input same refused = absurd refused
+  ends-refused s bytes (status.Refused refusal) input same refused = (bytes, input, refused, same)
+  ends-refused s bytes status.Memory input same refused = same

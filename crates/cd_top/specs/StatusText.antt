@@ -2,6 +2,7 @@
 use Rattle.std.specs.Prelude.{ℕ, List, Option, Some, None, codes}
 use Rattle.cd_top.specs.declared.status.Status.{Status}
 use Rattle.cd_top.specs.declared.status.Status.TheVariants as status
+use Rattle.cd_top.specs.declared.status.TopRefusal.TheVariants as refusal
 
 abbrev pub code_of : Status → ℕ
 code_of status.Ok = 0
@@ -10,6 +11,7 @@ code_of (status.BadInput fault) = 2
 code_of status.ReadFault = 4
 code_of status.WriteFault = 5
 code_of status.KeeperFault = 6
+code_of (status.Refused refusal) = 8
 code_of status.Memory = 9
 
 abbrev pub line_of : Status → Option (List ℕ)
@@ -19,4 +21,6 @@ line_of (status.BadInput fault) = Some (codes "celldb: bad input")
 line_of status.ReadFault = Some (codes "celldb: read fault")
 line_of status.WriteFault = Some (codes "celldb: write fault")
 line_of status.KeeperFault = Some (codes "celldb: keeper fault")
+line_of (status.Refused (refusal.Roots roots)) = Some (codes "celldb: refused Roots")
+line_of (status.Refused (refusal.Level mask)) = Some (codes "celldb: refused Level")
 line_of status.Memory = Some (codes "celldb: no memory")

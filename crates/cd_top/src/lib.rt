@@ -10,7 +10,7 @@ mod status;
 mod zero;
 
 pub use once::{Ended, INPUT_LIMIT, celldb_once};
-pub use status::{InputFault, Status, WordFault};
+pub use status::{InputFault, Status, TopRefusal, WordFault};
 
 #[cfg(test)]
 mod tests;

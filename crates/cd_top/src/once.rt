@@ -1,17 +1,16 @@
-ghost use Rattle.std.specs.Prelude.{◌≡◌, ◌↔◌, IfOk, IfSome, IsTrue, map, string_bytes};
+ghost use Rattle.std.specs.Prelude.{◌≡◌, ◌↔◌, IfOk, IfErr, IfSome, IsTrue, map, string_bytes};
 ghost use Rattle.cd_cell.specs.Tree.{Tree};
 ghost use Rattle.cd_keeper.specs.Contents.{no_contents};
-ghost use Rattle.cd_plain.specs.PlainBags.{IsPlainBag};
 ghost use Rattle.cd_world.specs.Image.{change_of};
 ghost use Rattle.cd_top.specs.Zero.{zero_world, zero_text};
-ghost use Rattle.cd_top.specs.ZeroCall.{IsZeroLine, IsStoring, IsLeft, Ends};
+ghost use Rattle.cd_top.specs.ZeroCall.{IsZeroLine, IsStateBag, IsRefusal, IsStoring, Ends};
 
-use crate::status::{InputFault, Status, WordFault};
+use crate::status::{InputFault, Status, TopRefusal, WordFault};
 use crate::zero::{Plan, plan_zero};
-use cd_base::{Memory, ReadAllFault, Sink, Source, read_all, write_all};
+use cd_base::{ReadAllFault, Sink, Source, read_all, write_all};
+use cd_boc_read::{BagFault, read_bag};
 use cd_cell::Hash32;
 use cd_keeper::{KeepFault, Keeper};
-use cd_plain::read_plain;
 use std::alloc::Global;
 use std::marker::PhantomData;
 
@@ -51,19 +50,32 @@ fn is_zero_line(words: &[String]) -> bool
     }
 }
 
-/// What is to be stored and printed for these bytes; `None` where they are no plain bag.
-fn plan_of<H: Hash32>(alloc: Global, bytes: &[u8]) -> Result<Option<Plan>, Memory>
-    ensures found { IfOk result (λ found. IfSome found (λ plan. (state : Tree) × IsPlainBag H.digest_of bytes.now state
-        × (plan.batch ≡ change_of H.digest_of (zero_world H.digest_of state)) × (string_bytes plan.text ≡ zero_text H.digest_of state))) }
-    ensures only { result ≡ Ok None → (state : Tree) → IsPlainBag H.digest_of bytes.now state → ⊥ }
+/// What is to be stored and printed for these bytes, or the status of a call over bytes that are no bag of a state.
+/// The bag is given up here, before anything is stored.
+fn plan_of<H: Hash32>(alloc: Global, bytes: &[u8]) -> Result<Plan, Status>
+    ensures found { IfOk result (λ plan. (state : Tree) × IsStateBag H.digest_of bytes.now state
+        × (plan.batch ≡ change_of H.digest_of (zero_world H.digest_of state)) × (string_bytes plan.text ≡ zero_text H.digest_of state)) }
+    ensures refused { IfErr result (IsRefusal H.digest_of bytes.now) }
 {
-    let bag = match read_plain::<H>(alloc, bytes)? {
-        None => return Ok(None),
-        Some(bag) => bag,
+    let bag = match read_bag::<H>(alloc, bytes) {
+        Ok(bag) => bag,
+        Err(BagFault::Memory) => return Err(Status::Memory),
+        Err(fault) => return Err(Status::BadInput(InputFault::Bag(fault))),
     };
     let roots = bag.roots.as_slice();
+    if roots.len() != 1 {
+        let roots = roots.len() as u32;
+        return Err(Status::Refused(TopRefusal::Roots { roots }));
+    }
     let root = roots[0];
-    Ok(Some(plan_zero::<H>(alloc, &bag, root)?))
+    let mask = bag.face(root).mask();
+    if mask.byte() != 0 {
+        return Err(Status::Refused(TopRefusal::Level { mask }));
+    }
+    match plan_zero::<H>(alloc, &bag, root) {
+        Ok(plan) => Ok(plan),
+        Err(_) => Err(Status::Memory),
+    }
 }
 
 /// Stores the batch and writes the text. The keeper is given back.
@@ -81,7 +93,7 @@ fn store<O: Sink, K: Keeper, H: Hash32>(plan: &Plan, out: &mut O, mut keeper: K)
 }
 
 /// One call of the program: `words` are the words behind its name, of which only the one word `zero` is a command
-/// so far. It reads a plain bag of cells to the end of the input, stores the state as the masterchain's zero state
+/// so far. It reads a bag of cells to the end of the input, stores the state as the masterchain's zero state
 /// in one batch, and writes the block's name and the number of its cells.
 ///
 /// Want of memory alone is free; what each other status says stands in `Ends`.
@@ -94,7 +106,7 @@ pub fn celldb_once<S: Source, O: Sink, K: Keeper, H: Hash32>(
 ) -> Ended<K, H>
     requires empty { IfSome (K.held keeper) (λ contents. contents ≡ no_contents) }
     ensures usage { (result.status ≡ Status.Usage WordFault.Usage) ↔ ¬ IsZeroLine (map string_bytes words.now) }
-    ensures refused { ¬ IsZeroLine (map string_bytes words.now) → IsLeft (S.left input.old) (S.left input.new) (K.held keeper) (K.held result.keeper) (O.taken out.old) (O.taken out.new) }
+    ensures refused { ¬ IsZeroLine (map string_bytes words.now) → (input.new ≡ input.old) × (out.new ≡ out.old) × (result.keeper ≡ keeper) }
     ensures zero { IsZeroLine (map string_bytes words.now) → Ends H.digest_of (record {
       left = S.left input.old;
       left_after = S.left input.new;
@@ -126,8 +138,7 @@ pub fn celldb_once<S: Source, O: Sink, K: Keeper, H: Hash32>(
         Err(ReadAllFault::Memory) => return Ended::of(Status::Memory, keeper),
     };
     match plan_of::<H>(alloc, &bytes) {
-        Err(_) => Ended::of(Status::Memory, keeper),
-        Ok(None) => Ended::of(Status::BadInput(InputFault::NotPlain), keeper),
-        Ok(Some(plan)) => store(&plan, out, keeper),
+        Ok(plan) => store(&plan, out, keeper),
+        Err(status) => Ended::of(status, keeper),
     }
 }

@@ -2,6 +2,8 @@ ghost use Rattle.std.specs.Prelude.{◌≡◌, MatchOption, codes};
 ghost use Rattle.cd_top.specs.StatusText.{code_of, line_of};
 ghost use Rattle.std.specs.Option.{option_map};
 
+use cd_boc_read::BagFault;
+use cd_cell::Mask;
 use thiserror::Error;
 
 /// Why the words were refused.
@@ -21,9 +23,20 @@ pub enum InputFault {
         /// How many bytes may come.
         limit: u64,
     },
-    /// The input isn't a plain bag of cells.
-    #[error("the input is not a plain bag of cells")]
-    NotPlain,
+    /// The input isn't a bag of cells, by this first fault.
+    #[error("the input is not a bag of cells: {0}")]
+    Bag(BagFault),
+}
+
+/// Why the work was refused, though the input was good.
+#[derive(Clone, Copy, Debug, PartialEq, Eq, Error)]
+pub enum TopRefusal {
+    /// A state is one tree, and the bag has another number of roots.
+    #[error("a bag of {roots} roots is no state")]
+    Roots { roots: u32 },
+    /// The root of a state is of level 0, and this one has another mask.
+    #[error("a root of mask {} is no state's", mask.byte())]
+    Level { mask: Mask },
 }
 
 /// How a call ended.
@@ -41,6 +54,8 @@ pub enum Status {
     WriteFault,
     /// The keeper failed.
     KeeperFault,
+    /// The work was refused. Nothing was stored.
+    Refused(TopRefusal),
     /// Memory ran out.
     Memory,
 }
@@ -57,6 +72,7 @@ impl Status {
             Status::ReadFault => 4,
             Status::WriteFault => 5,
             Status::KeeperFault => 6,
+            Status::Refused(_) => 8,
             Status::Memory => 9,
         }
     }
@@ -72,6 +88,8 @@ impl Status {
             Status::ReadFault => Some("celldb: read fault"),
             Status::WriteFault => Some("celldb: write fault"),
             Status::KeeperFault => Some("celldb: keeper fault"),
+            Status::Refused(TopRefusal::Roots { .. }) => Some("celldb: refused Roots"),
+            Status::Refused(TopRefusal::Level { .. }) => Some("celldb: refused Level"),
             Status::Memory => Some("celldb: no memory"),
         }
     }

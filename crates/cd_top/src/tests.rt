@@ -1,14 +1,15 @@
 ghost use Rattle.std.specs.Prelude.{◌≡◌, IfSome};
 ghost use Rattle.cd_keeper.specs.Contents.{no_contents};
 
-use crate::{Ended, InputFault, Status, WordFault, celldb_once};
+use crate::{Ended, InputFault, Status, TopRefusal, WordFault, celldb_once};
 use cd_base::{Hash256, MemorySink, MemorySource, Sink, Source, SteadySink, SteadySource};
-use cd_cell::Sha;
+use cd_boc_read::BagFault;
+use cd_cell::{Mask, Sha};
 use cd_keeper::{KeepFault, Keeper, MemoryKeeper, SteadyKeeper};
 use std::alloc::Global;
 use std::test::Fail;
 
-/// The plain bag of the cell without bits and references.
+/// The bag of the cell without bits and references.
 const ONE_CELL: [u8; 13] = [0xb5, 0xee, 0x9c, 0x72, 1, 1, 1, 1, 0, 2, 0, 0, 0];
 
 /// That cell in all four places of a root.
@@ -136,14 +137,65 @@ fn other_words_are_usage(rt: HostRuntime) -> Result<(), Fail> {
     Ok(())
 }
 
-#[test]
-fn a_cut_bag_is_not_plain(rt: HostRuntime) -> Result<(), Fail> {
-    let alloc = rt.alloc();
-    let mut input = SteadySource::new(ONE_CELL[..12].to_vec(alloc)?);
+/// The status over these bytes, where no batch was applied and nothing was written.
+fn refused(alloc: Global, bytes: &[u8]) -> Result<Option<Status>, Fail> {
+    let mut input = SteadySource::new(bytes.to_vec(alloc)?);
     let mut out = SteadySink::new(alloc);
-    let (status, mut keeper) = zero(alloc, &mut input, &mut out, SteadyKeeper::new(alloc))?;
-    assert!(rt; status == Status::BadInput(InputFault::NotPlain));
-    assert!(rt; first_cells(&mut keeper)? == (None, None));
+    let (status, keeper) = zero(alloc, &mut input, &mut out, SteadyKeeper::new(alloc))?;
+    if keeper.batches() > 0 || !out.taken().is_empty() {
+        return Ok(None);
+    }
+    Ok(Some(status))
+}
+
+/// The status over bytes that are no bag.
+fn no_bag(fault: BagFault) -> Option<Status> {
+    Some(Status::BadInput(InputFault::Bag(fault)))
+}
+
+#[test]
+fn each_cut_of_a_bag_is_told(rt: HostRuntime) -> Result<(), Fail> {
+    let alloc = rt.alloc();
+    for at in 0..ONE_CELL.len() {
+        let due = no_bag(BagFault::Cut { at: at as u64 });
+        assert!(rt; refused(alloc, &ONE_CELL[..at])? == due);
+    }
+    Ok(())
+}
+
+#[test]
+fn other_bytes_than_a_bag_are_refused(rt: HostRuntime) -> Result<(), Fail> {
+    let alloc = rt.alloc();
+    let longer = [0xb5, 0xee, 0x9c, 0x72, 1, 1, 1, 1, 0, 2, 0, 0, 0, 0];
+    assert!(rt; refused(alloc, &longer)? == no_bag(BagFault::Extra { at: 13 }));
+    let older = [0x68, 0xff, 0x65, 0xf3, 1, 1, 1, 1, 0, 2, 0, 0, 0];
+    let magic = BagFault::Magic { value: 0x68ff_65f3 };
+    assert!(rt; refused(alloc, &older)? == no_bag(magic));
+    let absent = [0xb5, 0xee, 0x9c, 0x72, 1, 1, 1, 1, 1, 2, 0, 0, 0];
+    assert!(rt; refused(alloc, &absent)? == no_bag(BagFault::Absent { absent: 1 }));
+    Ok(())
+}
+
+#[test]
+fn a_bag_of_two_roots_is_no_state(rt: HostRuntime) -> Result<(), Fail> {
+    let two = [0xb5, 0xee, 0x9c, 0x72, 1, 1, 2, 2, 0, 4, 0, 1, 0, 0, 0, 0];
+    let status = refused(rt.alloc(), &two)?;
+    assert!(rt; status == Some(Status::Refused(TopRefusal::Roots { roots: 2 })));
+    Ok(())
+}
+
+#[test]
+fn a_pruned_branch_is_no_state(rt: HostRuntime) -> Result<(), Fail> {
+    let alloc = rt.alloc();
+    // One cell of 38 bytes: a pruned branch of mask 1, with a hash and the depth 23.
+    let mut bytes = [0xb5, 0xee, 0x9c, 0x72, 1, 1, 1, 1, 0, 38, 0, 40, 72, 1, 1].to_vec(alloc)?;
+    bytes.extend_from_slice(&[7; 32])?;
+    bytes.extend_from_slice(&[0, 23])?;
+    let mask = Mask::of(1).ok_or("mask")?;
+    let status = refused(alloc, &bytes)?.ok_or("stored")?;
+    assert!(rt; status == Status::Refused(TopRefusal::Level { mask }));
+    assert!(rt; status.code() == 8);
+    assert!(rt; status.line() == Some("celldb: refused Level"));
     Ok(())
 }
 
@@ -173,13 +225,23 @@ fn a_sink_that_fails_leaves_the_block_stored(rt: HostRuntime) -> Result<(), Fail
 #[test]
 fn a_keeper_that_fails_stores_nothing(rt: HostRuntime) -> Result<(), Fail> {
     let alloc = rt.alloc();
-    let mut input = SteadySource::new(ONE_CELL.to_vec(alloc)?);
-    let mut out = SteadySink::new(alloc);
-    let failing = MemoryKeeper::new(alloc, [0].to_vec(alloc)?);
-    let (status, mut keeper) = zero(alloc, &mut input, &mut out, failing)?;
-    assert!(rt; status == Status::KeeperFault);
-    assert!(rt; keeper.faults() == 1);
-    assert!(rt; first_cells(&mut keeper)? == (None, None));
-    assert!(rt; out.taken().is_empty());
+    // The one call that it gets is the batch.
+    for failing in 0..3 {
+        let mut input = SteadySource::new(ONE_CELL.to_vec(alloc)?);
+        let mut out = SteadySink::new(alloc);
+        let keeper = MemoryKeeper::new(alloc, [failing].to_vec(alloc)?);
+        let (status, mut keeper) = zero(alloc, &mut input, &mut out, keeper)?;
+        let due = if failing == 0 {
+            Status::KeeperFault
+        } else {
+            Status::Ok
+        };
+        assert!(rt; status == due);
+        assert!(rt; keeper.faults() == u64::from(failing == 0));
+        assert!(rt; keeper.batches() == u64::from(failing > 0));
+        assert!(rt; out.taken().is_empty() == (failing == 0));
+        let found = keeper.at(keeper.batches())?.is_some();
+        assert!(rt; found);
+    }
     Ok(())
 }

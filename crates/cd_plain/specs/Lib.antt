@@ -1,2 +1,0 @@
-pub mod PlainBags
-pub mod Views
