@@ -1,11 +1,12 @@
 //! Reads bags of cells, and says of each what it has or why it is refused.
 #![tactic(auto)]
 
+mod export;
 mod mode;
 mod verdict;
 
 use crate::mode::{HELP, Mode};
-use crate::verdict::{verdict_of, verdict_of_line};
+use crate::verdict::{export_of, verdict_of, verdict_of_line};
 use cd_cell::Sha;
 use std::env;
 use std::io::{self, BufRead, BufReader, BufWriter, Read, Write};
@@ -48,10 +49,20 @@ fn print_raw<R: Input + Print + AllocGlobal>(rt: &R) -> io::Result<()> {
     println!(rt; "{verdict}")
 }
 
+/// Writes the export text of the bag that standard input is in place of its line, where it has one root.
+fn print_export<R: Input + Print + AllocGlobal>(rt: &R) -> io::Result<()> {
+    let bytes = read_whole(rt)?;
+    match export_of::<Sha>(rt.alloc(), &bytes)? {
+        Ok(text) => io::writer(rt).write_all(&text),
+        Err(verdict) => println!(rt; "{verdict}"),
+    }
+}
+
 fn run<R: Input + Print + AllocGlobal>(rt: &R, mode: Mode) -> io::Result<()> {
     match mode {
         Mode::Lines => print_lines(rt),
         Mode::Raw => print_raw(rt),
+        Mode::Export => print_export(rt),
         Mode::Help => print!(rt; "{HELP}"),
     }
 }

@@ -7,6 +7,8 @@ pub enum Mode {
     Lines,
     /// One line for all of standard input.
     Raw,
+    /// The export text of the one root, for all of standard input.
+    Export,
     /// The text of `--help`.
     Help,
 }
@@ -15,9 +17,10 @@ pub enum Mode {
 pub const HELP: &str = "\
 Says of bags of cells what they have, or why they are refused.
 
-    bag_faults          reads a bag in hexadecimal from each line of standard input
-    bag_faults --raw    reads one bag from standard input, as bytes
-    bag_faults --help   prints this text
+    bag_faults                 reads a bag in hexadecimal from each line of standard input
+    bag_faults --raw           reads one bag from standard input, as bytes
+    bag_faults --raw --export  the same, but writes the export text of the bag's one root
+    bag_faults --help          prints this text
 
 For each bag it prints a line: `ok roots N cells M`, or the first fault with its fields.
 ";
@@ -31,6 +34,14 @@ impl Mode {
         match words {
             [] => Some(Mode::Lines),
             [word] => Mode::of_word(word.as_str()),
+            [first, second] => match (
+                Mode::of_word(first.as_str()),
+                Mode::of_word(second.as_str()),
+            ) {
+                (Some(Mode::Raw), Some(Mode::Export)) => Some(Mode::Export),
+                (Some(Mode::Export), Some(Mode::Raw)) => Some(Mode::Export),
+                _ => None,
+            },
             _ => None,
         }
     }
@@ -41,6 +52,7 @@ impl Mode {
     {
         match word {
             "--raw" => Some(Mode::Raw),
+            "--export" => Some(Mode::Export),
             "--help" | "-h" => Some(Mode::Help),
             _ => None,
         }
@@ -59,14 +71,25 @@ mod tests {
         Ok(Mode::of(&words))
     }
 
+    fn two(alloc: Global, first: &str, second: &str) -> Result<Option<Mode>, Fail> {
+        let mut words = Vec::new(alloc);
+        words.push(String::from_str(alloc, first)?)?;
+        words.push(String::from_str(alloc, second)?)?;
+        Ok(Mode::of(&words))
+    }
+
     #[test]
     fn words_are_known_or_not(rt: HostRuntime) -> Result<(), Fail> {
         let alloc = rt.alloc();
         assert_eq!(rt; Mode::of(&[]), Some(Mode::Lines));
         assert_eq!(rt; mode(alloc, "--raw")?, Some(Mode::Raw));
+        assert_eq!(rt; mode(alloc, "--export")?, Some(Mode::Export));
         assert_eq!(rt; mode(alloc, "--help")?, Some(Mode::Help));
         assert_eq!(rt; mode(alloc, "raw")?, None);
         assert_eq!(rt; mode(alloc, "")?, None);
+        assert_eq!(rt; two(alloc, "--raw", "--export")?, Some(Mode::Export));
+        assert_eq!(rt; two(alloc, "--export", "--raw")?, Some(Mode::Export));
+        assert_eq!(rt; two(alloc, "--raw", "--raw")?, None);
         Ok(())
     }
 }
