@@ -1,0 +1,4 @@
+pub mod KeyLaws
+pub mod ReachLaws
+pub mod ListLaws
+pub mod StateLaws

@@ -1,0 +1,3 @@
+pub mod Keys
+pub mod Reached
+pub mod States

@@ -1,0 +1,14 @@
+//! Prepared values: lists of the new cells of a state, ready to be stored.
+#![tactic(auto)]
+
+mod key;
+mod listing;
+mod prepare_fault;
+mod reach;
+mod zero;
+
+pub use prepare_fault::PrepareFault;
+pub use zero::prepare_zero;
+
+#[cfg(test)]
+mod tests;

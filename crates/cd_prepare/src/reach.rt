@@ -1,0 +1,70 @@
+ghost use Rattle.std.specs.Prelude.{◌≡◌, ◌<◌, false, true, [], length, replicate, slice_set, IfOk, OnOk};
+ghost use Rattle.cd_cell.specs.Tree.{info_of};
+ghost use Rattle.cd_cell.specs.Bags.{bag_cell};
+ghost use Rattle.cd_prepare.specs.Keys.{key_of};
+ghost use Rattle.cd_prepare.specs.Reached.{keys_with, AreReached};
+
+use crate::key::Key;
+use cd_cell::{Bag, ChildInfo, Hash32};
+use std::alloc::{AllocError, Global};
+
+/// What is reached so far.
+#[derive(Drop)]
+struct Reached {
+    /// For each entry whether it is reached.
+    marks: Vec<bool>,
+    /// The key of each entry that is reached.
+    keys: Vec<Key>,
+}
+
+impl Reached {
+    /// Nothing of so many entries.
+    fn nothing(alloc: Global, count: usize) -> Result<Reached, AllocError>
+        ensures marks { IfOk result (λ reached. reached.marks.items ≡ replicate count false) }
+        ensures keys { IfOk result (λ reached. reached.keys.items ≡ []) }
+    {
+        Ok(Reached {
+            marks: vec![in alloc; false; count]?,
+            keys: Vec::with_capacity(alloc, count)?,
+        })
+    }
+
+    /// Marks an entry by what its cell shows. It gets a key where it is reached for the first time.
+    fn mark(&mut self, info: &ChildInfo, number: u32) -> Result<(), AllocError>
+        requires { number < length self.old.marks.items }
+        ensures marks { OnOk result (self.new.marks.items ≡ slice_set self.old.marks.items number true) }
+        ensures keys { OnOk result (self.new.keys.items ≡ keys_with self.old.marks.items self.old.keys.items (key_of info.now number)) }
+    {
+        if !self.marks[number as usize] {
+            self.keys.push(Key::of(info, number))?;
+        }
+        self.marks[number as usize] = true;
+        Ok(())
+    }
+}
+
+/// The key of each entry that a root leads to, and of the root itself. The entries are gone over from the root to the
+/// last one, since the children of an entry stand behind it.
+pub fn reach<H: Hash32>(
+    alloc: Global,
+    bag: &Bag<H>,
+    root: u32,
+    info: &ChildInfo,
+) -> Result<Vec<Key>, AllocError>
+    requires there { root < length bag.now.cells }
+    requires shown { info.now ≡ info_of H.digest_of (bag_cell bag.now.cells bag.now.refs root) }
+    ensures { IfOk result (λ keys. AreReached H.digest_of bag.now.cells bag.now.refs root keys.items) }
+{
+    let cells = bag.cells.as_slice();
+    let refs = bag.refs.as_slice();
+    let mut reached = Reached::nothing(alloc, cells.len())?;
+    reached.mark(info, root)?;
+    for number in root as usize..cells.len() {
+        if reached.marks[number] {
+            for (place, kid) in cells[number].kids().iter().enumerate() {
+                reached.mark(kid, refs[number][place])?;
+            }
+        }
+    }
+    Ok(reached.keys)
+}

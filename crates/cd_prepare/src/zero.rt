@@ -1,0 +1,48 @@
+ghost use Rattle.std.specs.Prelude.{◌≡◌, ◌<◌, [], ◌∷◌, None, IfOk, length, map};
+ghost use Rattle.cd_cell.specs.Tree.{Tree, info_of};
+ghost use Rattle.cd_cell.specs.Bags.{bag_cell, bag_trees};
+ghost use Rattle.cd_cell.specs.Export.{distinct_cells};
+ghost use Rattle.cd_cell.specs.Listings.{new_cell_of};
+ghost use Rattle.cd_prepare.specs.States.{state_fault, Answers, IsWhole};
+
+use crate::PrepareFault;
+use crate::listing::{cells_of, sort};
+use crate::reach::reach;
+use cd_cell::{Bag, ChildInfo, Hash32, NewCell, Prepared};
+use std::alloc::{AllocError, Global};
+
+/// All cells that an entry leads to, in the order of an export. `info` is what the entry's cell shows.
+fn all_cells<H: Hash32>(
+    alloc: Global,
+    bag: &Bag<H>,
+    root: u32,
+    info: &ChildInfo,
+) -> Result<Vec<NewCell>, AllocError>
+    requires there { root < length bag.now.cells }
+    requires shown { info.now ≡ info_of H.digest_of (bag_cell bag.now.cells bag.now.refs root) }
+    ensures { IfOk result (λ cells. cells.items ≡ map (new_cell_of H.digest_of) (distinct_cells H.digest_of (bag_cell bag.now.cells bag.now.refs root))) }
+{
+    let mut keys = reach(alloc, bag, root, info)?;
+    sort(&mut keys);
+    cells_of(alloc, bag, &keys)
+}
+
+/// The prepared value of a state that a bag has whole: all its cells are new. Nothing is hashed but the root.
+pub fn prepare_zero<H: Hash32>(alloc: Global, bag: &Bag<H>) -> Result<Prepared<H>, PrepareFault>
+    ensures exact { Answers (state_fault H.digest_of (bag_trees bag.now.cells bag.now.refs bag.now.roots)) result }
+    ensures old { IfOk result (λ value. value.old ≡ None) }
+    ensures whole { IfOk result (λ value. (state : Tree) → bag_trees bag.now.cells bag.now.refs bag.now.roots ≡ state ∷ [] → IsWhole H.digest_of state value.root value.cells) }
+{
+    let [root] = bag.roots.as_slice() else {
+        let roots = u32::try_from(bag.roots.as_slice().len()).unwrap_or(u32::MAX);
+        return Err(PrepareFault::Roots { roots });
+    };
+    let info = bag.info(*root);
+    if info.mask.byte() != 0 {
+        return Err(PrepareFault::Level { mask: info.mask });
+    }
+    let Ok(cells) = all_cells(alloc, bag, *root, &info) else {
+        return Err(PrepareFault::Memory);
+    };
+    Ok(Prepared::new(None, info, cells))
+}
