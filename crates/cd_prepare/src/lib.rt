@@ -8,7 +8,7 @@ mod reach;
 mod zero;
 
 pub use prepare_fault::PrepareFault;
-pub use zero::prepare_zero;
+pub use zero::{all_cells, prepare_zero};
 
 #[cfg(test)]
 mod tests;

@@ -1,4 +1,5 @@
-ghost use Rattle.std.specs.Prelude.{◌≡◌, ◌<◌, [], ◌∷◌, None, IfOk, length, map};
+ghost use Rattle.std.specs.Prelude.{◌≡◌, ◌<◌, ◌≤◌, [], ◌∷◌, None, All, IfOk, length, map};
+ghost use Rattle.cd_cell.specs.GoodFace.{IsGoodFace};
 ghost use Rattle.cd_cell.specs.Tree.{Tree, info_of};
 ghost use Rattle.cd_cell.specs.Bags.{bag_cell, bag_trees};
 ghost use Rattle.cd_cell.specs.Export.{distinct_cells};
@@ -11,8 +12,9 @@ use crate::reach::reach;
 use cd_cell::{Bag, ChildInfo, Hash32, NewCell, Prepared};
 use std::alloc::{AllocError, Global};
 
-/// All cells that an entry leads to, in the order of an export. `info` is what the entry's cell shows.
-fn all_cells<H: Hash32>(
+/// All cells that an entry of a bag leads to, its own first, each once, in the order of an export: by height, the
+/// greatest first, and then by hash, the least first. `info` is what the entry's cell shows. Nothing is hashed.
+pub fn all_cells<H: Hash32>(
     alloc: Global,
     bag: &Bag<H>,
     root: u32,
@@ -20,7 +22,9 @@ fn all_cells<H: Hash32>(
 ) -> Result<Vec<NewCell>, AllocError>
     requires there { root < length bag.now.cells }
     requires shown { info.now ≡ info_of H.digest_of (bag_cell bag.now.cells bag.now.refs root) }
-    ensures { IfOk result (λ cells. cells.items ≡ map (new_cell_of H.digest_of) (distinct_cells H.digest_of (bag_cell bag.now.cells bag.now.refs root))) }
+    ensures cells { IfOk result (λ cells. cells.items ≡ map (new_cell_of H.digest_of) (distinct_cells H.digest_of (bag_cell bag.now.cells bag.now.refs root))) }
+    ensures few { IfOk result (λ cells. length cells.items ≤ length bag.now.cells) }
+    ensures good { IfOk result (λ cells. All (λ c. IsGoodFace c.face) cells.items) }
 {
     let mut keys = reach(alloc, bag, root, info)?;
     sort(&mut keys);

@@ -138,7 +138,7 @@ fn other_words_are_usage(rt: HostRuntime) -> Result<(), Fail> {
 }
 
 /// The status over these bytes, where no batch was applied and nothing was written.
-fn refused(alloc: Global, bytes: &[u8]) -> Result<Option<Status>, Fail> {
+fn untouched(alloc: Global, bytes: &[u8]) -> Result<Option<Status>, Fail> {
     let mut input = SteadySource::new(bytes.to_vec(alloc)?);
     let mut out = SteadySink::new(alloc);
     let (status, keeper) = zero(alloc, &mut input, &mut out, SteadyKeeper::new(alloc))?;
@@ -148,17 +148,28 @@ fn refused(alloc: Global, bytes: &[u8]) -> Result<Option<Status>, Fail> {
     Ok(Some(status))
 }
 
-/// The status over bytes that are no bag.
-fn no_bag(fault: BagFault) -> Option<Status> {
-    Some(Status::BadInput(InputFault::Bag(fault)))
+/// Why these bytes are no bag, where nothing was touched.
+fn bag_fault(alloc: Global, bytes: &[u8]) -> Result<Option<BagFault>, Fail> {
+    match untouched(alloc, bytes)? {
+        Some(Status::BadInput(InputFault::Bag(fault))) => Ok(Some(fault)),
+        _ => Ok(None),
+    }
+}
+
+/// Why these bytes are no state, where nothing was touched.
+fn refusal(alloc: Global, bytes: &[u8]) -> Result<Option<TopRefusal>, Fail> {
+    match untouched(alloc, bytes)? {
+        Some(Status::Refused(refusal)) => Ok(Some(refusal)),
+        _ => Ok(None),
+    }
 }
 
 #[test]
 fn each_cut_of_a_bag_is_told(rt: HostRuntime) -> Result<(), Fail> {
     let alloc = rt.alloc();
     for at in 0..ONE_CELL.len() {
-        let due = no_bag(BagFault::Cut { at: at as u64 });
-        assert!(rt; refused(alloc, &ONE_CELL[..at])? == due);
+        let due = BagFault::Cut { at: at as u64 };
+        assert!(rt; bag_fault(alloc, &ONE_CELL[..at])? == Some(due));
     }
     Ok(())
 }
@@ -167,20 +178,20 @@ fn each_cut_of_a_bag_is_told(rt: HostRuntime) -> Result<(), Fail> {
 fn other_bytes_than_a_bag_are_refused(rt: HostRuntime) -> Result<(), Fail> {
     let alloc = rt.alloc();
     let longer = [0xb5, 0xee, 0x9c, 0x72, 1, 1, 1, 1, 0, 2, 0, 0, 0, 0];
-    assert!(rt; refused(alloc, &longer)? == no_bag(BagFault::Extra { at: 13 }));
+    assert!(rt; bag_fault(alloc, &longer)? == Some(BagFault::Extra { at: 13 }));
     let older = [0x68, 0xff, 0x65, 0xf3, 1, 1, 1, 1, 0, 2, 0, 0, 0];
     let magic = BagFault::Magic { value: 0x68ff_65f3 };
-    assert!(rt; refused(alloc, &older)? == no_bag(magic));
+    assert!(rt; bag_fault(alloc, &older)? == Some(magic));
     let absent = [0xb5, 0xee, 0x9c, 0x72, 1, 1, 1, 1, 1, 2, 0, 0, 0];
-    assert!(rt; refused(alloc, &absent)? == no_bag(BagFault::Absent { absent: 1 }));
+    assert!(rt; bag_fault(alloc, &absent)? == Some(BagFault::Absent { absent: 1 }));
     Ok(())
 }
 
 #[test]
 fn a_bag_of_two_roots_is_no_state(rt: HostRuntime) -> Result<(), Fail> {
     let two = [0xb5, 0xee, 0x9c, 0x72, 1, 1, 2, 2, 0, 4, 0, 1, 0, 0, 0, 0];
-    let status = refused(rt.alloc(), &two)?;
-    assert!(rt; status == Some(Status::Refused(TopRefusal::Roots { roots: 2 })));
+    let due = Some(TopRefusal::Roots { roots: 2 });
+    assert!(rt; refusal(rt.alloc(), &two)? == due);
     Ok(())
 }
 
@@ -192,8 +203,9 @@ fn a_pruned_branch_is_no_state(rt: HostRuntime) -> Result<(), Fail> {
     bytes.extend_from_slice(&[7; 32])?;
     bytes.extend_from_slice(&[0, 23])?;
     let mask = Mask::of(1).ok_or("mask")?;
-    let status = refused(alloc, &bytes)?.ok_or("stored")?;
-    assert!(rt; status == Status::Refused(TopRefusal::Level { mask }));
+    let found = refusal(alloc, &bytes)?.ok_or("another end")?;
+    assert!(rt; found == TopRefusal::Level { mask });
+    let status = Status::Refused(found);
     assert!(rt; status.code() == 8);
     assert!(rt; status.line() == Some("celldb: refused Level"));
     Ok(())
