@@ -1,0 +1,6 @@
+pub mod EachOnce
+pub mod Places
+pub mod Nodes
+pub mod UpdateFaults
+pub mod Indexes
+pub mod Visits
