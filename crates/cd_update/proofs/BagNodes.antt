@@ -1,5 +1,5 @@
 -- Nodes of a bag: their children stand behind them, and their preorder is that of the places of their cells.
-use Rattle.std.proofs.Common.{◌≡◌, ℕ, zero, suc, ◌+◌, ◌<◌, ◌≤◌, List, [], ◌∷◌, ◌++◌, length, get_or, take, map, flat_map, Contains, Bool, true, false, Option, refl, ap, ap₂, sym, ◌∙◌, subst, arith, length-take-le, get_or-take}
+use Rattle.std.proofs.Common.{◌≡◌, ℕ, zero, suc, ◌+◌, ◌<◌, ◌≤◌, List, [], ◌∷◌, ◌++◌, length, get_or, take, map, flat_map, Contains, Bool, true, false, Option, refl, ap, sym, ◌∙◌, arith, length-take-le, get_or-take}
 use Rattle.std.specs.Prelude.{if◌then◌else◌}
 use Rattle.std.specs.Bool.{Decides}
 use Rattle.std.specs.Option.{option_or}

@@ -1,11 +1,12 @@
 -- Laws of lists with each item once.
-use Rattle.std.proofs.Common.{◌≡◌, ℕ, suc, ◌<◌, List, [], ◌∷◌, ◌++◌, length, get_or, map, flat_map, find, fold, Contains, Bool, true, false, true≢false, IsTrue, ◌||◌, cond, Option, Some, None, refl, ap, ap₂, sym, ◌∙◌, subst, inl, inr, ⊎_elim, ◌⊎◌, append_assoc, arith}
+use Rattle.std.proofs.Common.{◌≡◌, ℕ, ◌<◌, List, [], ◌∷◌, ◌++◌, ◌≤◌, length, get_or, flat_map, fold, All, Contains, Bool, true, false, true≢false, ◌||◌, Option, Some, None, refl, ap, ap₂, sym, ◌∙◌, subst, inl, inr, ⊎_elim, ◌⊎◌, append_assoc, arith}
 use Rattle.std.specs.Prelude.{if◌then◌else◌}
 use Rattle.std.specs.Bool.{Decides}
 use Rattle.std.specs.List.{list_any}
-use Rattle.std.specs.Option.{option_or, option_map}
-use Rattle.std.proofs.lemmas.List.{append-nil}
-use Rattle.std.proofs.lemmas.List.Elements.{Contains-append_cases, Contains-append_left, Contains-append_right, Contains-push, Contains-push_cases}
+use Rattle.std.specs.Option.{option_or}
+use Rattle.std.proofs.lemmas.Bool.{cases_lt}
+use Rattle.std.proofs.lemmas.List.{append-nil, get_or_append_left, get_or_push, length_push}
+use Rattle.std.proofs.lemmas.List.Elements.{All-push, Contains-get_or, Contains-append_cases, Contains-append_left, Contains-append_right, Contains-push, Contains-push_cases}
 use Rattle.cd_cell.proofs.Subtrees.{Contains-first, Contains-later, Contains-cases, Contains-nil}
 use Rattle.cd_update.specs.EachOnce.{with_new, each_once, first_of}
 
@@ -52,6 +53,19 @@ or-right false b e = e
 pub true_or_false : (b : Bool) → (b ≡ true) ⊎ (b ≡ false)
 true_or_false true = inl refl
 true_or_false false = inr refl
+
+module _ {A B : Type 0} (ask : A → Option B) where
+  pub or_none : (o : Option B) → option_or o None ≡ o
+  or_none None = refl
+  or_none (Some x) = refl
+
+  pub or_assoc : (o p q : Option B) → option_or (option_or o p) q ≡ option_or o (option_or p q)
+  or_assoc None p q = refl
+  or_assoc (Some x) p q = refl
+
+  pub first_of-append : (xs ys : List A) → first_of ask (xs ++ ys) ≡ option_or (first_of ask xs) (first_of ask ys)
+  first_of-append [] ys = refl
+  first_of-append (x ∷ xs) ys = ap (option_or (ask x)) (first_of-append xs ys) ∙ sym (or_assoc (ask x) (first_of ask xs) (first_of ask ys))
 
 module _ {A : Type 0} (same : A → A → Bool) (tells : (a b : A) → Decides (same a b) (a ≡ b)) where
   pub contains-any : (x : A) (xs : List A) → list_any (same x) xs ≡ true → Contains xs x
@@ -133,36 +147,13 @@ module _ {A : Type 0} (same : A → A → Bool) (tells : (a b : A) → Decides (
 
   -- ---- what is asked of each item, is asked of the first ones alone
   module _ {B : Type 0} (ask : A → Option B) where
-    or_none : (o : Option B) → option_or o None ≡ o
-    or_none None = refl
-    or_none (Some x) = refl
-
-    or_assoc : (o p q : Option B) → option_or (option_or o p) q ≡ option_or o (option_or p q)
-    or_assoc None p q = refl
-    or_assoc (Some x) p q = refl
-
-    pub first_of-append : (xs ys : List A) → first_of ask (xs ++ ys) ≡ option_or (first_of ask xs) (first_of ask ys)
-    first_of-append [] ys = refl
-    first_of-append (x ∷ xs) ys = ap (option_or (ask x)) (first_of-append xs ys) ∙ sym (or_assoc (ask x) (first_of ask xs) (first_of ask ys))
-
-    or_twice : (o p : Option B) → option_or (option_or o p) p ≡ option_or o p
-    or_twice None None = refl
-    or_twice None (Some x) = refl
-    or_twice (Some x) p = refl
-
-    or_swap : (o p q : Option B) → option_or (option_or o (option_or p q)) p ≡ option_or o (option_or p q)
-    or_swap None None None = refl
-    or_swap None None (Some x) = refl
-    or_swap None (Some x) q = refl
-    or_swap (Some x) p q = refl
-
     -- an answer of an item that is there changes nothing
     pub first_of-there : (xs : List A) (x : A) → Contains xs x → option_or (first_of ask xs) (ask x) ≡ first_of ask xs
     first_of-there [] x h = absurd (Contains-nil x h)
     first_of-there (y ∷ ys) x h =
         ⊎_elim
         (λ here. ap (λ o. option_or (option_or (ask y) (first_of ask ys)) o) (ap ask (sym here)) ∙ go (ask y) (first_of ask ys))
-        (λ later. or_assoc (ask y) (first_of ask ys) (ask x) ∙ ap (option_or (ask y)) (first_of-there ys x later))
+        (λ later. or_assoc ask (ask y) (first_of ask ys) (ask x) ∙ ap (option_or (ask y)) (first_of-there ys x later))
         (Contains-cases y ys x h)
       where
         go : (o p : Option B) → option_or (option_or o p) o ≡ option_or o p
@@ -174,15 +165,15 @@ module _ {A : Type 0} (same : A → A → Bool) (tells : (a b : A) → Decides (
     first_of-with_new xs x =
         ⊎_elim
         (λ e. ap (first_of ask) (with_new-there xs x (contains-any x xs e)) ∙ sym (first_of-there xs x (contains-any x xs e)))
-        (λ e. ap (first_of ask) (with_new-absent xs x e) ∙ first_of-append xs (x ∷ []) ∙ ap (option_or (first_of ask xs)) (or_none (ask x)))
+        (λ e. ap (first_of ask) (with_new-absent xs x e) ∙ first_of-append ask xs (x ∷ []) ∙ ap (option_or (first_of ask xs)) (or_none ask (ask x)))
         (true_or_false (list_any (same x) xs))
 
     first_of-added : (xs ys : List A) → first_of ask (fold (with_new same) xs ys) ≡ option_or (first_of ask xs) (first_of ask ys)
-    first_of-added xs [] = sym (or_none (first_of ask xs))
+    first_of-added xs [] = sym (or_none ask (first_of ask xs))
     first_of-added xs (y ∷ ys) =
         first_of-added (with_new same xs y) ys
         ∙ ap (λ o. option_or o (first_of ask ys)) (first_of-with_new xs y)
-        ∙ or_assoc (first_of ask xs) (ask y) (first_of ask ys)
+        ∙ or_assoc ask (first_of ask xs) (ask y) (first_of ask ys)
 
     pub first_of-each_once : (xs : List A) → first_of ask (each_once same xs) ≡ first_of ask xs
     first_of-each_once xs = first_of-added [] xs
@@ -207,3 +198,63 @@ module _ {A B : Type 0} (same : A → A → Bool) (tells : (a b : A) → Decides
 
   pub each_once-flat_map : (xs : List A) → each_once like (flat_map f (each_once same xs)) ≡ each_once like (flat_map f xs)
   each_once-flat_map xs = sym (each_once-added [] xs)
+
+-- ---- what was added stays in its place, and no item stands in two places
+
+pub All-with_new : {A : Type 0} (P : A → Type 0) (same : A → A → Bool) (xs : List A) (x : A) → All P xs → P x → All P (with_new same xs x)
+All-with_new P same xs x all here = go (list_any (same x) xs)
+  where
+    go : (b : Bool) → All P (if b then xs else xs ++ x ∷ [])
+    go true = all
+    go false = All-push P xs x all here
+
+abbrev pub IsOnce : {A : Type 0} → List A → Type 0
+IsOnce {A} xs = (i j : ℕ) (d : A) → i < length xs → j < length xs → get_or xs i d ≡ get_or xs j d → i ≡ j
+
+module _ {A : Type 0} (same : A → A → Bool) (tells : (a b : A) → Decides (same a b) (a ≡ b)) where
+  extends-by : (xs : List A) (x : A) (b : Bool) → (zs : List A) × ((if b then xs else xs ++ x ∷ []) ≡ xs ++ zs)
+  extends-by xs x true = ([], sym (append-nil xs))
+  extends-by xs x false = (x ∷ [], refl)
+
+  pub added-extends : (xs ys : List A) → (zs : List A) × (fold (with_new same) xs ys ≡ xs ++ zs)
+  added-extends xs [] = ([], sym (append-nil xs))
+  added-extends xs (y ∷ ys) =
+      let one = extends-by xs y (list_any (same y) xs) in
+      let more = added-extends (with_new same xs y) ys in
+      (one.0 ++ more.0, more.1 ∙ ap (λ us. us ++ more.0) one.1 ∙ append_assoc xs one.0 more.0)
+
+  once-push : (xs : List A) (x : A) → IsOnce xs → list_any (same x) xs ≡ false → IsOnce (xs ++ x ∷ [])
+  once-push xs x once none i j d in-i in-j e =
+      let last : (k : ℕ) → k < length xs → get_or xs k d ≡ x → ⊥ =
+      λ k h at. true≢false (sym (any-contains same tells x xs (subst (Contains xs) at (Contains-get_or xs k d h))) ∙ none)
+      in
+      let before : (k : ℕ) → k < length xs → get_or (xs ++ x ∷ []) k d ≡ get_or xs k d = λ k h. get_or_append_left xs (x ∷ []) d k h in
+      let end : (k : ℕ) → k < length (xs ++ x ∷ []) → length xs ≤ k → (k ≡ length xs) × (get_or (xs ++ x ∷ []) k d ≡ x) =
+      λ k h past. let same_place : k ≡ length xs = omega (arith, length_push xs x) in (same_place, get_or_push xs x d k (sym same_place))
+      in
+      ⊎_elim
+      (λ here-i.
+      ⊎_elim
+      (λ here-j. once i j d here-i here-j (sym (before i here-i) ∙ e ∙ before j here-j))
+      (λ past-j. absurd (last i here-i (sym (before i here-i) ∙ e ∙ (end j in-j past-j).1)))
+      (cases_lt j (length xs)))
+      (λ past-i.
+      ⊎_elim
+      (λ here-j. absurd (last j here-j (sym (before j here-j) ∙ sym e ∙ (end i in-i past-i).1)))
+      (λ past-j. (end i in-i past-i).0 ∙ sym (end j in-j past-j).0)
+      (cases_lt j (length xs)))
+      (cases_lt i (length xs))
+
+  once-with_new : (xs : List A) (x : A) → IsOnce xs → IsOnce (with_new same xs x)
+  once-with_new xs x once = go (list_any (same x) xs) refl
+    where
+      go : (b : Bool) → list_any (same x) xs ≡ b → IsOnce (if b then xs else xs ++ x ∷ [])
+      go true e = once
+      go false e = once-push xs x once e
+
+  once-added : (xs ys : List A) → IsOnce xs → IsOnce (fold (with_new same) xs ys)
+  once-added xs [] once = once
+  once-added xs (y ∷ ys) once = once-added (with_new same xs y) ys (once-with_new xs y once)
+
+  pub IsOnce-each_once : (xs : List A) → IsOnce (each_once same xs)
+  IsOnce-each_once xs = once-added [] xs (λ i j d in-i in-j e. absurd (omega (arith, in-i)))

@@ -3,3 +3,9 @@ pub mod Walks
 pub mod VisitLaws
 pub mod BagNodes
 pub mod Walking
+pub mod PlaceLaws
+pub mod PairingLaws
+pub mod OldInfos
+pub mod IndexLaws
+pub mod OldTrees
+pub mod HalfVisits

@@ -1,5 +1,5 @@
 -- The walk over the nodes of a bag, step by step.
-use Rattle.std.proofs.Common.{◌≡◌, ℕ, ◌+◌, ◌*◌, ◌<◌, ◌≤◌, List, [], ◌∷◌, ◌++◌, length, get_or, take, drop, map, reverse, flat_map, fold, All, Contains, Bool, true, false, true≢false, Option, refl, ap, ap₂, sym, ◌∙◌, subst, append_assoc, get_or-take, arith}
+use Rattle.std.proofs.Common.{◌≡◌, ℕ, ◌+◌, ◌<◌, ◌≤◌, List, [], ◌∷◌, ◌++◌, length, get_or, take, drop, map, reverse, flat_map, fold, All, Contains, Bool, true, false, true≢false, refl, ap, ap₂, sym, ◌∙◌, subst, append_assoc, get_or-take, arith}
 use Rattle.std.specs.Prelude.{if◌then◌else◌, not}
 use Rattle.std.specs.List.{list_any}
 use Rattle.std.proofs.lemmas.List.{map-append, append-nil, reverse-append, reverse-reverse, get_or_append_left, length_push, drop_more}

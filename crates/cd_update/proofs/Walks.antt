@@ -1,11 +1,11 @@
 -- A walk with a stack that passes over what was visited gives the preorder, each item at its first place.
-use Rattle.std.proofs.Common.{◌≡◌, ℕ, zero, suc, ◌+◌, ◌<◌, ◌≤◌, List, [], ◌∷◌, ◌++◌, length, flat_map, fold, Contains, Bool, refl, ap, ap₂, sym, ◌∙◌, subst, inl, inr, ⊎_elim, append_assoc, arith, false, true}
+use Rattle.std.proofs.Common.{◌≡◌, ℕ, zero, suc, ◌+◌, ◌<◌, ◌≤◌, List, [], ◌∷◌, ◌++◌, length, flat_map, fold, Contains, Bool, refl, ap, sym, ◌∙◌, subst, ⊎_elim, append_assoc, arith, false}
 use Rattle.std.specs.Bool.{Decides}
 use Rattle.std.specs.List.{list_any}
 use Rattle.std.proofs.lemmas.List.{append-nil, length-append}
 use Rattle.std.proofs.lemmas.List.Elements.{Contains-append_cases, Contains-append_left, Contains-append_right, Contains-push_cases}
 use Rattle.cd_cell.proofs.Subtrees.{Contains-first, Contains-later, Contains-cases, Contains-nil}
-use Rattle.cd_update.specs.EachOnce.{with_new, each_once, walk_within}
+use Rattle.cd_update.specs.EachOnce.{with_new, walk_within}
 use Rattle.cd_update.proofs.EachOnceLaws.{fold-append, flat_map-append, flat_map-same, Contains-flat_map, Contains-flat_map_cases, with_new-absent, added-within}
 
 module _ {A : Type 0} (rank : A → ℕ) (bound : ℕ) (next : A → List A) where

@@ -4,3 +4,5 @@ pub mod Nodes
 pub mod UpdateFaults
 pub mod Indexes
 pub mod Visits
+pub mod Pairing
+pub mod Faults

@@ -11,8 +11,8 @@ use std::collections::BTreeMap;
 
 /// Where hashes stand in a list.
 #[derive(Drop)]
-pub(crate) struct Index {
-    pub places: BTreeMap<Hash256, usize>,
+pub struct Index {
+    pub(crate) places: BTreeMap<Hash256, usize>,
 }
 
 impl Index {

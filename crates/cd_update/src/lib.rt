@@ -1,12 +1,22 @@
 //! Merkle updates: the old half paired with an old tree, and the new half grafted onto what it showed.
 #![tactic(auto)]
 
+mod agree;
+mod hashes;
 mod hidden;
 mod index;
+mod known;
+mod pair_fault;
+mod pairing;
 mod update;
 mod update_fault;
+mod upto;
 mod visit;
 mod walk;
+mod wanted;
 
+pub use known::Known;
+pub use pair_fault::PairFault;
+pub use pairing::pair_old;
 pub use update::Update;
 pub use update_fault::UpdateFault;

@@ -1,8 +1,11 @@
-ghost use Rattle.std.specs.Prelude.{◌≡◌, None, Some, [], ◌∷◌, IfOk, MatchResult};
+ghost use Rattle.std.specs.Prelude.{◌≡◌, ◌<◌, None, Some, [], ◌∷◌, IfOk, MatchResult};
 ghost use Rattle.cd_cell.specs.Bags.{bag_cell, bag_trees};
+ghost use Rattle.cd_cell.specs.Updates.{half_of};
+ghost use Rattle.cd_update.specs.Nodes.{IsShown};
 ghost use Rattle.cd_update.specs.UpdateFaults.{IsUpdateEntry, fault_of_trees};
 
 use crate::update_fault::UpdateFault;
+use crate::visit::{Node, Visit};
 use cd_cell::{Bag, Hash32, Kind, kind_of, plain_mask};
 
 /// A Merkle update (TVM documentation, "Exotic cells"): the one root of a bag. Its first child is the old
@@ -35,5 +38,23 @@ impl<'a, H: Hash32> Update<'a, H> {
             return Err(UpdateFault::Level { mask });
         }
         Ok(Update { bag, root: *root })
+    }
+
+    /// The old half in place 0, the new one in place 1.
+    pub(crate) fn half(&self, place: u8) -> Visit
+        requires { place < 2 }
+        ensures shown { IsShown H.digest_of self.now.bag.now.cells result }
+        ensures depth { result.node.depth ≡ 0 }
+        ensures cell { bag_cell self.now.bag.now.cells self.now.bag.now.refs result.node.entry ≡ half_of (bag_cell self.now.bag.now.cells self.now.bag.now.refs self.now.root) place }
+    {
+        let children = self.bag.children(self.root);
+        Visit {
+            node: Node {
+                entry: children[place as usize],
+                depth: 0,
+            },
+            parent: self.root,
+            place,
+        }
     }
 }

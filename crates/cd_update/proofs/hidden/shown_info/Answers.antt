@@ -1,7 +1,7 @@
 -- A kid of a face is what the entry of its number shows.
-use Rattle.std.proofs.Common.{◌∙◌, sym, ap, get_or, arith}
+use Rattle.std.proofs.Common.{◌∙◌, sym, ap, get_or}
 use Rattle.std.proofs.lemmas.List.{get_or_default}
-use Rattle.cd_cell.specs.CellFaults.{no_info, kid_at}
+use Rattle.cd_cell.specs.CellFaults.{no_info}
 use Rattle.cd_cell.proofs.BagLaws.{info_of-bag}
 use Rattle.cd_update.proofs.hidden.shown_info.Goals as goal
 

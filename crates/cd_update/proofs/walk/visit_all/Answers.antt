@@ -1,9 +1,6 @@
 -- A visit is taken from what is pending: it was seen, or its children are put in its place.
-use Rattle.std.proofs.Common.{◌≡◌, ◌*◌, ◌++◌, ◌∷◌, [], length, true, false, ap, sym, subst, ◌∙◌, refl, reverse, arith}
-use Rattle.std.specs.Prelude.{not, if◌then◌else◌}
-use Rattle.std.specs.List.{list_any}
-use Rattle.cd_update.specs.Nodes.{same_node}
-use Rattle.cd_update.specs.Visits.{nodes_of}
+use Rattle.std.proofs.Common.{◌≡◌, ◌*◌, ◌++◌, ◌∷◌, [], length, true, false, ap, sym, subst, ◌∙◌, arith}
+use Rattle.std.specs.Prelude.{if◌then◌else◌}
 use Rattle.cd_update.proofs.Walking.{IsWalking, IsWalking-start, IsWalking-seen, IsWalking-new, top-shown, places_left-seen, places_left-new, not-true, not-false}
 use Rattle.cd_update.proofs.walk.visit_all.Goals as goal
 
