@@ -9,3 +9,6 @@ pub mod OldInfos
 pub mod IndexLaws
 pub mod OldTrees
 pub mod HalfVisits
+pub mod GraftInfos
+pub mod GraftVisits
+pub mod GraftTrees

@@ -1,7 +1,10 @@
 -- What a cell shows up to a level, as a cell without levels above shows it.
-use Rattle.std.proofs.Common.{◌≡◌, ℕ, zero, suc, ◌+◌, ◌<◌, ◌≤◌, ◌^◌, min, List, [], ◌∷◌, false, refl, ap, sym, ◌∙◌, subst, ⊎_elim, mod-eq_of_lt, le_refl, eq-or-lt_of_le, add-one, arith}
+use Rattle.std.proofs.Common.{◌≡◌, ℕ, zero, suc, ◌+◌, ◌<◌, ◌≤◌, ◌/◌, ◌^◌, min, List, [], ◌∷◌, All, nat_eq, ◌||◌, Bool, true, false, Some, None, refl, ap, sym, ◌∙◌, subst, ⊎_elim, mod-eq_of_lt, le_refl, eq-or-lt_of_le, add-one, eqb-true, eq-eqb, arith}
+use Rattle.std.specs.Prelude.{if◌then◌else◌}
+use Rattle.std.specs.List.{list_any}
+use Rattle.std.proofs.lemmas.List.Elements.{All-head, All-tail}
 use Rattle.std.proofs.lemmas.Nat.Bits.{bit_at_above}
-use Rattle.std.proofs.lemmas.Bool.{cases_lt}
+use Rattle.std.proofs.lemmas.Bool.{cases_lt, and_parts, and_from}
 use Rattle.cd_base.specs.declared.hash.Hash256.{Hash256}
 use Rattle.cd_cell.specs.declared.info.ChildInfo.{ChildInfo}
 use Rattle.cd_cell.specs.Masks.{lowest_bits, is_significant}
@@ -10,13 +13,16 @@ use Rattle.cd_cell.specs.Steady.{IsSteady}
 use Rattle.cd_cell.specs.Tree.{Tree, info_of, face_of, IsWellFormed}
 use Rattle.cd_cell.specs.FaceView.{FaceView}
 use Rattle.cd_cell.specs.Levels.{mask_of_face, info_of_face}
-use Rattle.cd_cell.specs.Updates.{Matches}
+use Rattle.cd_cell.specs.Equality.{same_info, same_info-Decides}
+use Rattle.cd_cell.specs.Updates.{matches, Matches, stands_for}
+use Rattle.cd_cell.proofs.Showing.{matches-Decides}
 use Rattle.cd_cell.proofs.Heights.{clear-bit, IsSteady-info_of}
 use Rattle.cd_cell.proofs.Wanted.{hash-flat}
 use Rattle.cd_cell.proofs.Subtrees.{IsGoodFace-face_of, info_of-face_of}
 use Rattle.cd_cell.proofs.LevelRecursions.{at_levels, depth_of_info}
-use Rattle.cd_cell.proofs.Grafting.{lowest-significant}
+use Rattle.cd_cell.proofs.Grafting.{lowest-significant, lowest-lowest}
 use Rattle.cd_update.specs.Pairing.{upto, IsOldInfo}
+use Rattle.cd_update.specs.Grafts.{known_for}
 
 pub hash-upto : (d : ℕ) (k : ChildInfo) (l : ℕ) → l ≤ 3 → info_hash (upto d k) l ≡ info_hash k (min d l)
 hash-upto d k = at_levels (λ l. info_hash (upto d k) l ≡ info_hash k (min d l)) (ap (info_hash k) (let same : 0 ≡ min d 0 = omega arith in same)) refl refl refl
@@ -135,3 +141,49 @@ module _ (k o : ChildInfo) (d : ℕ) (top : d ≤ 3) (whole : k ≡ upto 3 k) (s
     where
       joined : {m n : ℕ} {a b p q r s u v : Hash256} {e f g h i j x y : ℕ} → m ≡ n → a ≡ b → p ≡ q → r ≡ s → u ≡ v → e ≡ f → g ≡ h → i ≡ j → x ≡ y → told m a p r u e g i x ≡ told n b q s v f h j y
       joined em ea ep er eu ee eg ei ex = cc
+
+-- ---- the one known info that stands for a hidden cell
+
+same_bool : (a b : Bool) → (a ≡ true → b ≡ true) → (b ≡ true → a ≡ true) → a ≡ b
+same_bool true b f g = sym (f refl)
+same_bool false true f g = g refl
+same_bool false false f g = refl
+
+none_above : (m d : ℕ) → d ≤ 3 → lowest_bits m d / 2 ^ d ≡ 0
+none_above m d top = at_levels (λ e. lowest_bits m e / 2 ^ e ≡ 0) (omega arith) (omega arith) (omega arith) (omega arith) d top
+
+small_from : (m d : ℕ) → d ≤ 3 → m / 2 ^ d ≡ 0 → m < 2 ^ d
+small_from m d top e = at_levels (λ l. m / 2 ^ l ≡ 0 → m < 2 ^ l) (λ z. omega arith) (λ z. omega arith) (λ z. omega arith) (λ z. omega arith) d top e
+
+upto-matches : (d : ℕ) (k : ChildInfo) → d ≤ 3 → Matches d (upto d k) k
+upto-matches d k top = record {
+  masks = lowest-lowest k.mask d d (le_refl d);
+  hashes = λ l low. hash-upto d k l (omega arith) ∙ ap (info_hash k) (let e : min d l ≡ l = omega arith in e);
+  depths = λ l low. depth-upto d k l (omega arith) ∙ ap (info_depth k) (let e : min d l ≡ l = omega arith in e);
+}
+
+module _ (hidden : ChildInfo) (d : ℕ) (top : d ≤ 3) where
+  stands-as : (k : ChildInfo) → IsOldInfo k → stands_for hidden d k ≡ same_info (upto d hidden) k
+  stands-as k old =
+      same_bool (stands_for hidden d k) (same_info (upto d hidden) k)
+      (λ e.
+      let both = and_parts (nat_eq (k.mask / 2 ^ d) 0) (matches d k hidden) e in
+      (same_info-Decides (upto d hidden) k).1 (sym (matched k hidden d top old.whole old.steady (small_from k.mask d top (eqb-true (k.mask / 2 ^ d) 0 both.0)) ((matches-Decides d k hidden).0 both.1))))
+      (λ e.
+      let same = (same_info-Decides (upto d hidden) k).0 e in
+      subst (λ x. stands_for hidden d x ≡ true) same
+      (and_from (nat_eq ((upto d hidden).mask / 2 ^ d) 0) (matches d (upto d hidden) hidden) (eq-eqb ((upto d hidden).mask / 2 ^ d) 0 (none_above hidden.mask d top)) ((matches-Decides d (upto d hidden) hidden).1 (upto-matches d hidden top))))
+
+  known-step : (k : ChildInfo) (ks : List ChildInfo) → IsOldInfo k → (b : Bool) → same_info (upto d hidden) k ≡ b → known_for ks hidden d ≡ (if list_any (same_info (upto d hidden)) ks then Some (upto d hidden) else None) → known_for (k ∷ ks) hidden d ≡ (if list_any (same_info (upto d hidden)) (k ∷ ks) then Some (upto d hidden) else None)
+  known-step k ks old true e rest =
+      ap (λ b. if b then Some k else known_for ks hidden d) (stands-as k old ∙ e)
+      ∙ ap Some (sym ((same_info-Decides (upto d hidden) k).0 e))
+      ∙ ap (λ b. if b || list_any (same_info (upto d hidden)) ks then Some (upto d hidden) else None) (sym e)
+  known-step k ks old false e rest =
+      ap (λ b. if b then Some k else known_for ks hidden d) (stands-as k old ∙ e)
+      ∙ rest
+      ∙ ap (λ b. if b || list_any (same_info (upto d hidden)) ks then Some (upto d hidden) else None) (sym e)
+
+  pub known-as : (known : List ChildInfo) → All IsOldInfo known → known_for known hidden d ≡ (if list_any (same_info (upto d hidden)) known then Some (upto d hidden) else None)
+  known-as [] old = refl
+  known-as (k ∷ ks) old = known-step k ks (All-head IsOldInfo k ks old) (same_info (upto d hidden) k) refl (known-as ks (All-tail IsOldInfo k ks old))

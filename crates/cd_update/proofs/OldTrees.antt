@@ -1,5 +1,5 @@
 -- Pairing against an old tree: the faces beside the wanted hashes are those of the cells that the half meets.
-use Rattle.std.proofs.Common.{◌≡◌, ℕ, ◌<◌, ◌≤◌, List, [], ◌∷◌, ◌++◌, length, get_or, map, flat_map, Contains, Bool, true, false, true≢false, Option, Some, None, refl, ap, ap₂, sym, ◌∙◌, subst, le_refl, arith, eqb-true}
+use Rattle.std.proofs.Common.{◌≡◌, ℕ, ◌/◌, ◌<◌, ◌≤◌, List, [], ◌∷◌, ◌++◌, length, get_or, map, flat_map, Contains, Bool, true, false, true≢false, Option, Some, None, refl, ap, ap₂, sym, ◌∙◌, subst, le_refl, arith, eqb-true}
 use Rattle.std.specs.Prelude.{if◌then◌else◌, ◌==◌}
 use Rattle.std.specs.Option.{option_or, option_map}
 use Rattle.std.specs.Cmp.Lexicographic.{pointwise}
@@ -9,15 +9,17 @@ use Rattle.std.proofs.lemmas.List.Elements.{Contains-append_left, Contains-appen
 use Rattle.cd_base.specs.declared.hash.Hash256.{Hash256}
 use Rattle.cd_cell.specs.declared.info.ChildInfo.{ChildInfo}
 use Rattle.cd_cell.specs.declared.kind.Kind.TheVariants.{Update}
-use Rattle.cd_cell.specs.Infos.{info_hash, info_depth}
+use Rattle.cd_cell.specs.BitText.{data_of}
+use Rattle.cd_cell.specs.Infos.{info_hash, info_depth, all_masks}
 use Rattle.cd_cell.specs.FaceView.{FaceView}
-use Rattle.cd_cell.specs.Levels.{kind_of_face, is_merkle, kid_level, stated_hash}
+use Rattle.cd_cell.specs.Levels.{kind_of_face, mask_by_kind, is_merkle, kid_level, stated_hash}
 use Rattle.cd_cell.specs.CellFaults.{kid_at, no_info, stated_depth_of_kid}
-use Rattle.cd_cell.specs.Tree.{Tree, cell, Trees, no_trees, tree_and, children, subtrees, info_of, infos_of, face_of, kind_of, hash_at, depth_at, rep_of, IsWellFormed}
+use Rattle.cd_cell.specs.Tree.{mask_of, Tree, cell, Trees, no_trees, tree_and, children, subtrees, info_of, infos_of, face_of, kind_of, hash_at, depth_at, rep_of, IsWellFormed}
 use Rattle.cd_cell.specs.Unfolding.{no_tree}
 use Rattle.cd_cell.specs.Equality.{same_hash, same_hash-Decides}
 use Rattle.cd_cell.specs.Updates.{matches, Matches, agrees, is_hidden, Unless, Misfit, UpdateRefusal, some_unless, old_half, half_of, hash_refusal, depth_refusal, half_refusal, wanted, wanted_of_all, Shows, ShowAll, misfit, misfit_of_all, known_cells, known_of_all}
-use Rattle.cd_cell.proofs.Subtrees.{Contains-first, Contains-later, subtree-itself, subtrees-child, kids-face_of, IsGoodFace-face_of}
+use Rattle.cd_cell.proofs.Subtrees.{Contains-first, Contains-later, subtree-itself, subtrees-child, kids-face_of, info_of-face_of, IsGoodFace-face_of}
+use Rattle.cd_cell.proofs.Grafting.{joined-bound}
 use Rattle.cd_cell.proofs.LevelRecursions.{below_merkle-low}
 use Rattle.cd_cell.proofs.Heights.{IsSteady-info_of}
 use Rattle.cd_cell.proofs.Showing.{matches-Decides, Shows-from_misfit}
@@ -188,3 +190,12 @@ module _ (H : List ℕ → Hash256) (u : Tree) (well : IsWellFormed H u) (is_upd
         let same = matching parts.0 in
         let shows = Shows-from_misfit H (half_of u 0) t 0 (sym (half-misfit same) ∙ no_map (λ x. old_half x) _ parts.1) in
         known-are H (half_of u 0) t 0 (omega arith) old same shows
+
+-- the new half of an update of mask 0 has no level above 1
+pub mask-new : (H : List ℕ → Hash256) (u : Tree) → IsWellFormed H u → kind_of H u ≡ Some Update → mask_of H u ≡ 0 → mask_of H (half_of u 1) < 2
+mask-new H u well is_update plain =
+    let f = face_of H u in
+    let halved : all_masks f.kids / 2 ≡ 0 = sym (ap (λ kind. mask_by_kind kind (data_of f.bits) f.kids) is_update) ∙ sym (ap (λ k. k.mask) (info_of-face_of H u)) ∙ plain in
+    let bound : (kid_at f 1).mask ≤ all_masks f.kids = joined-bound 0 f.kids 1 no_info (omega (arith, ((IsGoodFace-face_of H u well).fit.update is_update).refs)) in
+    let same : mask_of H (half_of u 1) ≡ (kid_at f 1).mask = ap (λ k. k.mask) (sym (kid-half H u well is_update 1 (omega arith))) in
+    omega arith

@@ -1,6 +1,6 @@
 -- Laws of visits and their numbers, and of the index of a list.
 use Rattle.std.proofs.Common.{◌≡◌, ◌≢◌, ℕ, ◌<◌, ◌≤◌, List, [], ◌∷◌, ◌++◌, length, get_or, set, Contains, Bool, true, false, true≢false, Option, Some, None, refl, ap, ap₂, sym, ◌∙◌, subst, ⊎_elim, get_or-set_same, get_or-set_other, arith}
-use Rattle.std.specs.Prelude.{if◌then◌else◌, is_some}
+use Rattle.std.specs.Prelude.{if◌then◌else◌, is_some, MatchOption}
 use Rattle.std.specs.Bool.{Decides}
 use Rattle.std.specs.List.{list_any}
 use Rattle.std.specs.Ordering.{is_eq}
@@ -34,7 +34,7 @@ same_node-Decides a b =
       λ h. and_from _ _ (entry.1 (ap (λ (n : Node). n.entry) h)) (depth.1 (ap (λ (n : Node). n.depth) h)),
     )
 
-same_spot : (a b : Node) → a.depth < 4 → b.depth < 4 → spot a ≡ spot b → a ≡ b
+pub same_spot : (a b : Node) → a.depth < 4 → b.depth < 4 → spot a ≡ spot b → a ≡ b
 same_spot a b low low' e =
     let both : ℕ → ℕ → Node = λ e d. record { entry = e; depth = d } in
     let entry : a.entry ≡ b.entry = omega arith in
@@ -63,6 +63,13 @@ module _ (numbers : List (Option ℕ)) (visits : List Visit) (numbered : IsNumbe
 
   pub number-told : (n : Node) → n.depth ≤ 3 → is_some (get_or numbers (spot n) None) ≡ list_any (same_node n) (nodes_of visits)
   number-told n low = some_number n low (get_or numbers (spot n) None) refl
+
+  -- what a number tells
+  pub number-visit : (n : Node) → n.depth ≤ 3 → (o : Option ℕ) → o ≡ get_or numbers (spot n) None → MatchOption o (list_any (same_node n) (nodes_of visits) ≡ false) (λ k. (k < length visits) × ((visit_at visits k).node ≡ n))
+  number-visit n low None e = sym (some_number n low None (sym e))
+  number-visit n low (Some k) e =
+      let back = numbered.back (spot n) k (sym e) in
+      (back.0, same_spot (visit_at visits k).node n (numbered.low k back.0) (omega arith) back.1)
 
   no_number : (o : Option ℕ) → is_some o ≡ false → o ≡ None
   no_number None e = refl

@@ -6,3 +6,4 @@ pub mod Indexes
 pub mod Visits
 pub mod Pairing
 pub mod Faults
+pub mod Grafts

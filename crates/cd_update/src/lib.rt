@@ -2,10 +2,13 @@
 #![tactic(auto)]
 
 mod agree;
+mod graft_fault;
+mod grafting;
 mod hashes;
 mod hidden;
 mod index;
 mod known;
+mod own;
 mod pair_fault;
 mod pairing;
 mod update;
@@ -15,6 +18,8 @@ mod visit;
 mod walk;
 mod wanted;
 
+pub use graft_fault::GraftFault;
+pub use grafting::{Grafted, graft};
 pub use known::Known;
 pub use pair_fault::PairFault;
 pub use pairing::pair_old;

@@ -1,8 +1,8 @@
-ghost use Rattle.std.specs.Prelude.{◌≡◌, ◌+◌, ◌*◌, ◌<◌, ◌≤◌, ℕ, [], ◌∷◌, ◌++◌, not, length, map, reverse, replicate, slice_index_or, All, IfOk, OnOk, if◌then◌else◌};
+ghost use Rattle.std.specs.Prelude.{◌≡◌, ◌+◌, ◌*◌, ◌<◌, ◌≤◌, ℕ, [], ◌∷◌, ◌++◌, not, false, length, map, reverse, replicate, slice_index_or, All, MatchOption, IfOk, OnOk, if◌then◌else◌};
 ghost use Rattle.std.specs.List.{list_any};
 ghost use Rattle.cd_update.specs.EachOnce.{each_once};
 ghost use Rattle.cd_update.specs.Nodes.{same_node, next_nodes, nodes_from, IsShown};
-ghost use Rattle.cd_update.specs.Visits.{spot, nodes_of, IsNumbered};
+ghost use Rattle.cd_update.specs.Visits.{spot, nodes_of, visit_at, IsNumbered};
 
 use crate::hidden::{below, is_hidden, shown_info};
 use crate::visit::{Node, Visit};
@@ -40,7 +40,8 @@ impl Walk {
     pub fn number(&self, node: Node) -> Option<usize>
         requires depth { node.depth ≤ 3 }
         requires entry { 4 * node.entry + 3 < length self.now.numbers.items }
-        ensures { result ≡ slice_index_or self.now.numbers.items (spot node) None }
+        ensures value { result ≡ slice_index_or self.now.numbers.items (spot node) None }
+        ensures visit { MatchOption result (list_any (same_node node) (nodes_of self.now.visits.items) ≡ false) (λ k. (k < length self.now.visits.items) × ((visit_at self.now.visits.items k).node ≡ node)) }
     {
         self.numbers[4 * node.entry as usize + node.depth as usize]
     }

@@ -8,19 +8,19 @@ use Rattle.cd_update.proofs.walk.Walk.add.Goals as goal
 pub returns-then-is_some-clause-new : goal.returns-then-is_some-clause-new
 returns-then-is_some-clause-new c =
     let walk = c.args.self.now in
-    ap not (sym c.if-is_some.true ∙ c.is_some.ensures ∙ ap is_some c.number.ensures ∙ number-told walk.numbers.items walk.visits.items walk.numbered c.args.visit.node c.requires.depth)
+    ap not (sym c.if-is_some.true ∙ c.is_some.ensures ∙ ap is_some c.number.ensures.value ∙ number-told walk.numbers.items walk.visits.items walk.numbered c.args.visit.node c.requires.depth)
 
 pub returns-clause-new : goal.returns-clause-new
 returns-clause-new c =
     let walk = c.args.self.now in
-    ap not (sym c.if-is_some.false ∙ c.is_some.ensures ∙ ap is_some c.number.ensures ∙ number-told walk.numbers.items walk.visits.items walk.numbered c.args.visit.node c.requires.depth)
+    ap not (sym c.if-is_some.false ∙ c.is_some.ensures ∙ ap is_some c.number.ensures.value ∙ number-told walk.numbers.items walk.visits.items walk.numbered c.args.visit.node c.requires.depth)
 
 pub invariant_of-self-2 : goal.invariant_of-self-2
 invariant_of-self-2 c =
     let walk = c.args.self.now in
     let visit = c.args.visit in
     let count : c.len-number.result ≡ length walk.visits.items = omega (arith, c.len-number.ensures, walk.visits.ok) in
-    let free = sym (ap is_some c.number.ensures) ∙ sym c.is_some.ensures ∙ c.if-is_some.false in
+    let free = sym (ap is_some c.number.ensures.value) ∙ sym c.is_some.ensures ∙ c.if-is_some.false in
     record {
       numbered =
           subst (λ n. IsNumbered (set walk.numbers.items (spot visit.node) (Some n)) c.push.new.self.items) (sym count)
