@@ -1,5 +1,5 @@
 -- Laws of the listed cells of a bag's root: sorted keys of what is reached give all cells of its tree.
-use Rattle.std.proofs.Common.{◌≡◌, ℕ, ◌-◌, ◌<◌, ◌≤◌, List, [], ◌∷◌, length, get_or, map, All, AllPairs, Contains, Less, nat_cmp, refl, ap, ap₂, sym, ◌∙◌, subst, ⊎_elim, arith}
+use Rattle.std.proofs.Common.{◌≡◌, ℕ, ◌-◌, ◌<◌, ◌≤◌, List, [], ◌∷◌, length, get_or, map, All, AllPairs, Contains, Less, Ordering, nat_cmp, refl, ap, ap₂, sym, ◌∙◌, subst, ⊎_elim, arith}
 use Rattle.std.specs.Ordering.{ordering_then}
 use Rattle.std.proofs.lemmas.Bool.Decides.{nat_tests}
 use Rattle.std.proofs.lemmas.Cmp.{tied_itself}
@@ -26,8 +26,15 @@ map-listed f g [] same = refl
 map-listed f g (x ∷ xs) same = ap₂ (λ y ys. y ∷ ys) (same x (Contains-first x xs)) (map-listed f g xs (λ y h. same y (Contains-later x xs y h)))
 
 -- heights turned into distances from a greatest one
-turned-heights : (x y : ℕ) → x ≤ 1024 → y ≤ 1024 → nat_cmp (65535 - x) (65535 - y) ≡ nat_cmp y x
+pub turned-heights : (x y : ℕ) → x ≤ 1024 → y ≤ 1024 → nat_cmp (65535 - x) (65535 - y) ≡ nat_cmp y x
 turned-heights x y low-x low-y = grind (arith, nat_tests)
+
+-- what is higher stands before
+pub height_higher : (x y : ℕ) (o : Ordering) → y < x → ordering_then (nat_cmp y x) o ≡ Less
+height_higher x y o lower = ap (λ p. ordering_then p o) (lower-first y x lower)
+  where
+    lower-first : (y x : ℕ) → y < x → nat_cmp y x ≡ Less
+    lower-first y x lower = grind (arith, nat_tests)
 
 module _ (H : List ℕ → Hash256) (cells : List FaceView) (refs : List (List ℕ)) (roots : List ℕ) (bag : IsBag H cells refs roots) (root : ℕ) (in' : root < length cells) where
   abbrev cell : ℕ → Tree
