@@ -12,7 +12,7 @@ use cd_cell::{ChildInfo, Face, Hash32};
 use std::alloc::Global;
 
 /// The least representation hash that two different faces have. It sorts the hashes, each with its cell's number.
-pub(crate) fn clash_of<H: Hash32>(
+pub fn clash_of<H: Hash32>(
     alloc: Global,
     faces: &[Face],
     infos: &[ChildInfo],

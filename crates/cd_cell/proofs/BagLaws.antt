@@ -60,8 +60,8 @@ module _ (H : List ℕ → Hash256) (cells : List FaceView) (refs : List (List �
   shows = map (info_of_face H) cells
 
   -- there are as many numbers as kids
-  enough : (k : ℕ) → k < length cells → length (face_at cells k).kids ≤ length (four k)
-  enough k in' =
+  pub enough-bag : (k : ℕ) → k < length cells → length (face_at cells k).kids ≤ length (four k)
+  enough-bag k in' =
       ⊎_elim
       (λ fewer.
       let none : ref_at refs k (length (four k)) ≡ 0 = get_or_past (four k) (length (four k)) 0 (omega arith) in
@@ -77,7 +77,7 @@ module _ (H : List ℕ → Hash256) (cells : List FaceView) (refs : List (List �
   kids-at k in' =
       let face = face_at cells k in
       let numbers = take (length face.kids) (four k) in
-      let long : length numbers ≡ length face.kids = length-take-le (length face.kids) (four k) (enough k in') in
+      let long : length numbers ≡ length face.kids = length-take-le (length face.kids) (four k) (enough-bag k in') in
       same_lists (map (behind k (drop (k + 1) shows) (info_of H no_tree)) numbers) face.kids
       (length-map numbers (behind k (drop (k + 1) shows) (info_of H no_tree)) ∙ long)
       (λ p d in-numbers.
@@ -137,7 +137,7 @@ module _ (H : List ℕ → Hash256) (cells : List FaceView) (refs : List (List �
       let face = face_at cells k in
       let all = unfold_from 0 entries in
       let numbers = take (length face.kids) (four k) in
-      let long : length numbers ≡ length face.kids = length-take-le (length face.kids) (four k) (enough k in') in
+      let long : length numbers ≡ length face.kids = length-take-le (length face.kids) (four k) (enough-bag k in') in
       let in-entries : k < length entries = omega (arith, length-entries_of cells refs bag.counted) in
       let tree = unfolding_of-is k entries no_entry in-entries ∙ ap (λ e. tree_of_entry k e (drop (k + 1) all)) (entry-at k no_entry in') in
       ap children tree
@@ -161,7 +161,7 @@ module _ (H : List ℕ → Hash256) (cells : List FaceView) (refs : List (List �
       let named = Contains-map (unfolding_of entries) numbers c (subst (λ cs. Contains cs c) (children-bag k in') h) in
       let r = named.0 in
       let p = named.1.0 in
-      let in-kids : p < length face.kids = omega (arith, named.1.1, length-take-le (length face.kids) (four k) (enough k in')) in
+      let in-kids : p < length face.kids = omega (arith, named.1.1, length-take-le (length face.kids) (four k) (enough-bag k in')) in
       let number : r ≡ ref_at refs k p =
       sym named.1.2 ∙ get_or_default numbers p r 0 named.1.1 ∙ get_or-take (length face.kids) (four k) p 0 in-kids
       in

@@ -35,13 +35,13 @@ pub record IsKept (d : ℕ) (old new : ChildInfo) : Type 0 where
   pub depths : (l : ℕ) → l ≤ d → info_depth new l ≡ info_depth old l
 
 -- the same of children in their places
-abbrev AreKept : ℕ → List ChildInfo → List ChildInfo → Type 0
+abbrev pub AreKept : ℕ → List ChildInfo → List ChildInfo → Type 0
 AreKept d [] [] = Unit {0}
 AreKept d [] (g ∷ gs) = ⊥
 AreKept d (k ∷ ks) [] = ⊥
 AreKept d (k ∷ ks) (g ∷ gs) = IsKept d k g × AreKept d ks gs
 
-length-kept : (d : ℕ) (ks gs : List ChildInfo) → AreKept d ks gs → length gs ≡ length ks
+pub length-kept : (d : ℕ) (ks gs : List ChildInfo) → AreKept d ks gs → length gs ≡ length ks
 length-kept d [] [] kept = refl
 length-kept d [] (g ∷ gs) kept = absurd kept
 length-kept d (k ∷ ks) [] kept = absurd kept
@@ -49,7 +49,7 @@ length-kept d (k ∷ ks) (g ∷ gs) kept = ap suc (length-kept d ks gs kept.1)
 
 -- ---- masks up to a level
 
-lowest-lowest : (m l d : ℕ) → l ≤ d → lowest_bits (lowest_bits m d) l ≡ lowest_bits m l
+pub lowest-lowest : (m l d : ℕ) → l ≤ d → lowest_bits (lowest_bits m d) l ≡ lowest_bits m l
 lowest-lowest m l d low =
     ap (λ e. m % 2 ^ e % 2 ^ l) (let parts : d ≡ (d - l) + l = omega arith in parts) ∙ mod-mod-pow m (d - l) l
 
@@ -69,7 +69,7 @@ bit-lowest m (suc (suc (suc k))) (suc (suc zero)) below top = absurd (omega arit
 bit-lowest m (suc (suc (suc k))) (suc (suc (suc zero))) below top = absurd (omega arith)
 bit-lowest m k (suc (suc (suc (suc d)))) below top = absurd (omega arith)
 
-lowest-significant : (m l d : ℕ) → l ≤ d → d ≤ 3 → is_significant (lowest_bits m d) l ≡ is_significant m l
+pub lowest-significant : (m l d : ℕ) → l ≤ d → d ≤ 3 → is_significant (lowest_bits m d) l ≡ is_significant m l
 lowest-significant m zero d low top = refl
 lowest-significant m (suc l) d low top =
     let k : suc l - 1 ≡ l = omega arith in
@@ -115,10 +115,10 @@ kid-kept d (k ∷ ks) (g ∷ gs) zero kept in' = kept.0
 kid-kept d (k ∷ ks) (g ∷ gs) (suc place) kept in' = kid-kept d ks gs place kept.1 (omega arith)
 
 module _ (H : List ℕ → Hash256) (exotic : Bool) (bits : List Bool) (ks gs : List ChildInfo) (d : ℕ) (top : d ≤ 3) where
-  abbrev before : FaceView
+  abbrev pub before : FaceView
   before = record { exotic = exotic; bits = bits; kids = ks }
 
-  abbrev after : FaceView
+  abbrev pub after : FaceView
   after = record { exotic = exotic; bits = bits; kids = gs }
 
   -- no level up to d is taken from children above their Merkle depth
@@ -191,7 +191,7 @@ module _ (H : List ℕ → Hash256) (exotic : Bool) (bits : List Bool) (ks gs : 
           (λ e. if_pruned-no after e _ _ ∙ plain_depth-kept l low ∙ sym (if_pruned-no before e _ _))
           (pruned-cases (kind_of_face before))
 
-      IsKept-info : IsKept d (info_of_face H before) (info_of_face H after)
+      pub IsKept-info : IsKept d (info_of_face H before) (info_of_face H after)
       IsKept-info =
           record {
             mask = mask;
@@ -232,7 +232,7 @@ module _ (H : List ℕ → Hash256) (exotic : Bool) (bits : List Bool) (ks gs : 
           (cases_lt d l)
 
       -- the cell is fit again
-      IsFaceFit-kept : IsFaceFit after
+      pub IsFaceFit-kept : IsFaceFit after
       IsFaceFit-kept =
           record {
             known = fit.known;
@@ -299,7 +299,7 @@ joined-bound acc (k ∷ ks) =
     All-cons (λ x. x.mask ≤ fold (λ m k. bit_or m k.mask) (bit_or acc k.mask) ks) k ks (le_trans (le_or_r acc k.mask) (joined-from (bit_or acc k.mask) ks)) (joined-bound (bit_or acc k.mask) ks)
 
 module _ (exotic : Bool) (bits : List Bool) (ks gs : List ChildInfo) (d : ℕ) (top : d ≤ 3) (small : All (λ k. k.mask ≤ 7) ks) (fit : IsFaceFit (record { exotic = exotic; bits = bits; kids = ks })) (low : mask_of_face (record { exotic = exotic; bits = bits; kids = ks }) < 2 ^ (d + 1)) where
-  abbrev face : FaceView
+  abbrev pub face : FaceView
   face = record { exotic = exotic; bits = bits; kids = ks }
 
   all_small : all_masks ks ≤ 7
@@ -311,7 +311,7 @@ module _ (exotic : Bool) (bits : List Bool) (ks gs : List ChildInfo) (d : ℕ) (
   merkle_kept : (l : ℕ) → AreKept l ks gs → lowest_bits (all_masks ks) l / 2 ≡ lowest_bits (all_masks ks / 2) d → all_masks gs / 2 ≡ lowest_bits (all_masks ks / 2) d
   merkle_kept l kept e = ap (λ m. m / 2) (ap (λ m. fold (λ m k. bit_or m k.mask) m gs) (none_lowest l) ∙ joined-kept l 0 ks gs kept) ∙ e
 
-  mask_of_face-kept : is_hidden d face ≡ false → AreKept (kid_level face d) ks gs → mask_of_face (record { exotic = exotic; bits = bits; kids = gs }) ≡ lowest_bits (mask_of_face face) d
+  pub mask_of_face-kept : is_hidden d face ≡ false → AreKept (kid_level face d) ks gs → mask_of_face (record { exotic = exotic; bits = bits; kids = gs }) ≡ lowest_bits (mask_of_face face) d
   mask_of_face-kept shown kept = go (kind_of_face face) refl shown low kept
     where
       go : (kind : Option Kind) → kind_of_face face ≡ kind → (is_pruned kind && (level_of_mask (mask_by_kind kind (data_of bits) ks) == d + 1)) ≡ false → mask_by_kind kind (data_of bits) ks < 2 ^ (d + 1) → AreKept (below_merkle (is_merkle kind) d) ks gs → mask_by_kind kind (data_of bits) gs ≡ lowest_bits (mask_by_kind kind (data_of bits) ks) d
@@ -323,7 +323,7 @@ module _ (exotic : Bool) (bits : List Bool) (ks gs : List ChildInfo) (d : ℕ) (
       go (Some Proof) e shown low kept = merkle_kept (below_merkle true d) kept (merkle_mask (all_masks ks) d all_small top)
       go (Some Update) e shown low kept = merkle_kept (below_merkle true d) kept (merkle_mask (all_masks ks) d all_small top)
 
-  kids-low : All (λ k. k.mask < 2 ^ (kid_level face d + 1)) ks
+  pub kids-low : All (λ k. k.mask < 2 ^ (kid_level face d + 1)) ks
   kids-low = go (kind_of_face face) refl low
     where
       go : (kind : Option Kind) → kind_of_face face ≡ kind → mask_by_kind kind (data_of bits) ks < 2 ^ (d + 1) → All (λ k. k.mask < 2 ^ (below_merkle (is_merkle kind) d + 1)) ks
@@ -343,7 +343,7 @@ pub record IsFound (H : List ℕ → Hash256) (n : Tree) (d : ℕ) (known : Tree
   pub same : Matches d (info_of H known) (info_of H n)
 
 -- a number below a power has no part above it
-low-whole : (m d : ℕ) → m / 2 ^ d ≡ 0 → m ≡ lowest_bits m d
+pub low-whole : (m d : ℕ) → m / 2 ^ d ≡ 0 → m ≡ lowest_bits m d
 low-whole m d e =
     sym (div-add-mod m (2 ^ d)) ∙ ap (λ q. 2 ^ d * q + m % 2 ^ d) e ∙ ap (λ z. z + m % 2 ^ d) (mul-zero (2 ^ d)) ∙ zero-add (m % 2 ^ d)
 

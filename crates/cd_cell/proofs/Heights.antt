@@ -139,7 +139,7 @@ clear-bit mask (suc (suc zero)) below clear = ne_eqb (mask / 4 % 2) 1 (λ e. ome
 clear-bit mask (suc (suc (suc l))) below clear = absurd (omega arith)
 
 -- the mask of a face is at most 7 where those of its kids are
-mask_of_face-small : (f : FaceView) → IsFaceFit f → All (λ k. k.mask ≤ 7) f.kids → mask_of_face f ≤ 7
+pub mask_of_face-small : (f : FaceView) → IsFaceFit f → All (λ k. k.mask ≤ 7) f.kids → mask_of_face f ≤ 7
 mask_of_face-small f fit all = go (kind_of_face f) refl
   where
     go : (kind : Option Kind) → kind_of_face f ≡ kind → mask_by_kind kind (data_of f.bits) f.kids ≤ 7

@@ -71,7 +71,7 @@ agrees-long : (d : ℕ) (stored shown : FaceView) → agrees d stored shown ≡ 
 agrees-long d stored shown e = as_long (matches (kid_level shown d)) stored.kids shown.kids (and_parts _ _ e).1
 
 module _ (H : List ℕ → Hash256) where
-  long_children : (d : ℕ) (exotic : Bool) (bits : List Bool) (os : Trees) (t : Tree) → agrees d (face_of H t) (face_of H (cell exotic bits os)) ≡ true → length (children t) ≡ length (list_of os)
+  pub long_children : (d : ℕ) (exotic : Bool) (bits : List Bool) (os : Trees) (t : Tree) → agrees d (face_of H t) (face_of H (cell exotic bits os)) ≡ true → length (children t) ≡ length (list_of os)
   long_children d exotic bits os t e =
       sym (length-map (children t) (info_of H))
       ∙ sym (ap length (kids-face_of H t))

@@ -173,7 +173,7 @@ module _ (H : List ℕ → Hash256) where
   pub well_formed-child : (t c : Tree) → IsWellFormed H t → Contains (children t) c → IsWellFormed H c
   well_formed-child t c good h = well_formed-subtree t c good (child-is-subtree t c h)
 
-  length-infos_of : (ts : Trees) → length (infos_of H ts) ≡ length (list_of ts)
+  pub length-infos_of : (ts : Trees) → length (infos_of H ts) ≡ length (list_of ts)
   length-infos_of no_trees = refl
   length-infos_of (tree_and t ts) = ap suc (length-infos_of ts)
 

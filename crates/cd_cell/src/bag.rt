@@ -1,4 +1,4 @@
-ghost use Rattle.std.specs.Prelude.{◌≡◌, ◌↔◌, ◌<◌, ◌≤◌, ℕ, length, map, All, IsTrue};
+ghost use Rattle.std.specs.Prelude.{◌≡◌, ◌↔◌, ◌<◌, ◌≤◌, ℕ, [], length, map, take, slice_index_or, All, IsTrue};
 ghost use Rattle.cd_cell.specs.Infos.{info_hash};
 ghost use Rattle.cd_cell.specs.GoodFace.{IsGoodFace};
 ghost use Rattle.cd_cell.specs.Tree.{children, info_of, face_of, rep_of, height_of, IsWellFormed};
@@ -53,6 +53,7 @@ impl<H: Hash32> Bag<H> {
     pub fn children(&self, number: u32) -> &[u32]
         requires { number < length self.now.cells }
         ensures count { length result.now ≡ length (face_at self.now.cells number).kids }
+        ensures numbers { result.now ≡ take (length (face_at self.now.cells number).kids) (slice_index_or self.now.refs number []) }
         ensures behind { All (λ r. (number < r) × (r < length self.now.cells)) result.now }
         ensures cells { children (bag_cell self.now.cells self.now.refs number) ≡ map (bag_cell self.now.cells self.now.refs) result.now }
         ensures lower { All (λ r. height_of H.digest_of (bag_cell self.now.cells self.now.refs r) < height_of H.digest_of (bag_cell self.now.cells self.now.refs number)) result.now }

@@ -28,6 +28,7 @@ pub use digest::{Hash32, Sha, WeakSum};
 pub use face::Face;
 pub use info::ChildInfo;
 pub use kind::Kind;
+pub use levels::{kind_of, plain_mask};
 pub use lists::Listed;
 pub use mask::Mask;
 pub use new_cell::NewCell;

@@ -1,5 +1,5 @@
 -- Laws of the listed cells of a bag's root: sorted keys of what is reached give all cells of its tree.
-use Rattle.std.proofs.Common.{◌≡◌, ◌≢◌, ℕ, suc, true, false, eqb, Equal, ◌-◌, ◌<◌, ◌≤◌, List, [], ◌∷◌, length, get_or, map, All, AllPairs, Contains, Less, nat_cmp, refl, ap, ap₂, sym, ◌∙◌, subst, ⊎_elim, arith}
+use Rattle.std.proofs.Common.{◌≡◌, ◌≢◌, ℕ, suc, true, false, eqb, Equal, ◌-◌, ◌<◌, ◌≤◌, List, [], ◌∷◌, length, get_or, map, All, AllPairs, Contains, Less, Ordering, nat_cmp, refl, ap, ap₂, sym, ◌∙◌, subst, ⊎_elim, arith}
 use Rattle.std.specs.Ordering.{ordering_then}
 use Rattle.std.specs.List.{IsDistinct, list_any}
 use Rattle.std.proofs.lemmas.Bool.{eqb-true, ne_eqb, or_cases, true≢false}
@@ -31,7 +31,7 @@ map-listed f g [] same = refl
 map-listed f g (x ∷ xs) same = ap₂ (λ y ys. y ∷ ys) (same x (Contains-first x xs)) (map-listed f g xs (λ y h. same y (Contains-later x xs y h)))
 
 -- heights turned into distances from a greatest one
-turned-heights : (x y : ℕ) → x ≤ 1024 → y ≤ 1024 → nat_cmp (65535 - x) (65535 - y) ≡ nat_cmp y x
+pub turned-heights : (x y : ℕ) → x ≤ 1024 → y ≤ 1024 → nat_cmp (65535 - x) (65535 - y) ≡ nat_cmp y x
 turned-heights x y low-x low-y = grind (arith, nat_tests)
 
 -- numbers of which no two are equal, each below n, are at most n
@@ -47,6 +47,13 @@ below-each : (xs : List ℕ) (n q : ℕ) → ((i : ℕ) → i < length xs → ge
 below-each [] n q low h = absurd (true≢false (sym h))
 below-each (x ∷ xs) n q low h =
     ⊎_elim (λ same. rw (eqb-true q x same) (low 0 (omega arith))) (λ later. below-each xs n q (λ i in'. low (suc i) (omega arith)) later) (or_cases _ _ h)
+
+-- what is higher stands before
+pub height_higher : (x y : ℕ) (o : Ordering) → y < x → ordering_then (nat_cmp y x) o ≡ Less
+height_higher x y o lower = ap (λ p. ordering_then p o) (lower-first y x lower)
+  where
+    lower-first : (y x : ℕ) → y < x → nat_cmp y x ≡ Less
+    lower-first y x lower = grind (arith, nat_tests)
 
 module _ (H : List ℕ → Hash256) (cells : List FaceView) (refs : List (List ℕ)) (roots : List ℕ) (bag : IsBag H cells refs roots) (root : ℕ) (in' : root < length cells) where
   abbrev cell : ℕ → Tree
@@ -127,9 +134,9 @@ module _ (H : List ℕ → Hash256) (cells : List FaceView) (refs : List (List �
         let a = get_or new i no_key in
         let b = get_or new j no_key in
         let rank : a.rank ≡ b.rank =
-            ap (λ (k : Key). k.rank) (keyed a (Contains-get_or new i no_key (omega arith)))
-            ∙ ap (λ n. let k : Key = key_at H cells refs n in k.rank) same
-            ∙ sym (ap (λ (k : Key). k.rank) (keyed b (Contains-get_or new j no_key in-new))) in
+        ap (λ (k : Key). k.rank) (keyed a (Contains-get_or new i no_key (omega arith)))
+        ∙ ap (λ n. let k : Key = key_at H cells refs n in k.rank) same
+        ∙ sym (ap (λ (k : Key). k.rank) (keyed b (Contains-get_or new j no_key in-new))) in
         let less : rank_cmp a.rank b.rank ≡ Less = sorted.ordered i j no_key before in-new in
         let equal : rank_cmp a.rank b.rank ≡ Equal = ap (λ r. rank_cmp r b.rank) rank ∙ tied_itself rank_cmp-total b.rank in
         absurd cc

@@ -1,3 +1,6 @@
 pub mod Keys
 pub mod Reached
 pub mod States
+pub mod NewCells
+pub mod UpdateFaults
+pub mod Applied

@@ -2,7 +2,7 @@ ghost use Rattle.std.specs.Prelude.{◌≡◌, ◌<◌, length, map, All, IfOk};
 ghost use Rattle.cd_prepare.specs.Keys.{cell_of_key, AreSorted};
 
 use crate::key::Key;
-use cd_cell::{Bag, Hash32, NewCell};
+use cd_cell::{Face, NewCell};
 use std::alloc::{AllocError, Global};
 
 /// Sorts keys, and keeps one of those of equal rank.
@@ -13,20 +13,16 @@ pub fn sort(keys: &mut Vec<Key>)
     keys.dedup_by_key(|key| key.rank);
 }
 
-/// The cells of some entries, each face copied into its place.
-pub fn cells_of<H: Hash32>(
-    alloc: Global,
-    bag: &Bag<H>,
-    keys: &[Key],
-) -> Result<Vec<NewCell>, AllocError>
-    requires { All (λ key. key.number < length bag.now.cells) keys.now }
-    ensures { IfOk result (λ cells. cells.items ≡ map (cell_of_key bag.now.cells) keys.now) }
+/// The cells with these keys, each face copied into its place.
+pub fn cells_of(alloc: Global, faces: &[Face], keys: &[Key]) -> Result<Vec<NewCell>, AllocError>
+    requires { All (λ key. key.number < length faces.now) keys.now }
+    ensures { IfOk result (λ cells. cells.items ≡ map (cell_of_key faces.now) keys.now) }
 {
     let mut cells = Vec::with_capacity(alloc, keys.len())?;
     for key in keys {
         cells.push(NewCell {
             hash: key.rank.hash,
-            face: *bag.face(key.number),
+            face: faces[key.number as usize],
         })?;
     }
     Ok(cells)

@@ -28,7 +28,7 @@ pub fn all_cells<H: Hash32>(
 {
     let mut keys = reach(alloc, bag, root, info)?;
     sort(&mut keys);
-    cells_of(alloc, bag, &keys)
+    cells_of(alloc, bag.cells.as_slice(), &keys)
 }
 
 /// The prepared value of a state that a bag has whole: all its cells are new. Nothing is hashed but the root.

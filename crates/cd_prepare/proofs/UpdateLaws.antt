@@ -1,0 +1,169 @@
+-- Laws of prepared updates: which fault comes, and what the listed cells are over an old tree.
+use Rattle.std.proofs.Common.{◌≡◌, ℕ, ◌<◌, List, length, get_or, map, AllPairs, Contains, Option, Some, None, Ok, Less, refl, ap, ap₂, sym, ◌∙◌, subst, inl, inr, ⊎_elim, ◌⊎◌, arith}
+use Rattle.std.specs.Option.{option_or, option_map}
+use Rattle.std.proofs.lemmas.List.{length-map, get_or-map}
+use Rattle.std.proofs.lemmas.List.Elements.{Contains-append_right}
+use Rattle.cd_base.specs.declared.hash.Hash256.{Hash256}
+use Rattle.cd_cell.specs.declared.info.ChildInfo.{ChildInfo}
+use Rattle.cd_cell.specs.declared.new_cell.NewCell.{NewCell}
+use Rattle.cd_cell.specs.FaceView.{FaceView}
+use Rattle.cd_cell.specs.Infos.{rep_of_info}
+use Rattle.cd_cell.specs.Levels.{rep_of_face}
+use Rattle.cd_cell.specs.Tree.{Tree, subtrees, info_of, face_of, rep_of}
+use Rattle.cd_cell.specs.Unfolding.{no_tree}
+use Rattle.cd_cell.specs.Equality.{same_info, same_info-Decides, same_face, same_face-Decides}
+use Rattle.cd_cell.specs.Export.{export_cmp, sorted_distinct, AreDistinct}
+use Rattle.cd_cell.specs.Listings.{listing_cmp, new_cell_of, known_infos, info_of_new}
+use Rattle.cd_cell.specs.Updates.{UpdateRefusal, foreign, first_foreign, found_in, grafted, half_of, known_of, hash_refusal, depth_refusal, half_refusal, graft_refusal, refusal_of, or_refused, applied}
+use Rattle.cd_cell.proofs.Subtrees.{Contains-map, Contains-mapped, info_of-face_of}
+use Rattle.cd_cell.proofs.Distinct.{same-rising, rises-from_AllPairs, AreDistinct-sorted_distinct}
+use Rattle.cd_cell.proofs.ExportOrder.{export_cmp-total, export_cmp-ties}
+use Rattle.cd_cell.proofs.ListedTrees.{listing_cmp-new}
+use Rattle.cd_cell.proofs.Showing.{subtree-known}
+use Rattle.cd_boc_read.specs.CellFaults.{clash_of}
+use Rattle.cd_update.specs.declared.pair_fault.PairFault.{PairFault}
+use Rattle.cd_update.specs.declared.pair_fault.PairFault.TheVariants as pair
+use Rattle.cd_update.specs.declared.graft_fault.GraftFault.{GraftFault}
+use Rattle.cd_update.specs.declared.graft_fault.GraftFault.TheVariants as graft
+use Rattle.cd_update.specs.EachOnce.{each_once}
+use Rattle.cd_update.specs.Faults.{told, foreign_hash}
+use Rattle.cd_update.specs.Pairing.{tree_refusal}
+use Rattle.cd_update.proofs.EachOnceLaws.{Contains-each_once, Contains-each_once_cases}
+use Rattle.cd_prepare.specs.declared.prepare_fault.PrepareFault.{PrepareFault}
+use Rattle.cd_prepare.specs.declared.prepare_fault.PrepareFault.TheVariants.{Memory, NewClash}
+use Rattle.cd_prepare.specs.UpdateFaults.{of_pair, of_graft}
+use Rattle.cd_prepare.specs.NewCells.{new_cell_with, AreListed}
+use Rattle.cd_prepare.specs.Applied.{fault_of, new_faces, update_fault}
+use Rattle.cd_prepare.proofs.NewLists.{AreClear, listing_cmp-total}
+
+-- ---- which fault comes
+
+or-regrouped : {A : Type 0} (o p q r : Option A) → option_or o (option_or p (option_or q r)) ≡ option_or (option_or o (option_or p q)) r
+or-regrouped None None None r = refl
+or-regrouped None None (Some x) r = refl
+or-regrouped None (Some x) q r = refl
+or-regrouped (Some x) p q r = refl
+
+pair-told : (fault : PairFault) (o : Option UpdateRefusal) → (fault ≡ pair.Memory) ⊎ (told fault ≡ o) → (of_pair fault ≡ Memory) ⊎ (option_map fault_of o ≡ Some (of_pair fault))
+pair-told (pair.OldHash stated real) o h = ⊎_elim (λ e. absurd (cc e)) (λ e. inr (ap (option_map fault_of) (sym e))) h
+pair-told (pair.OldDepth stated real) o h = ⊎_elim (λ e. absurd (cc e)) (λ e. inr (ap (option_map fault_of) (sym e))) h
+pair-told (pair.OldHalf hash stored shown) o h = ⊎_elim (λ e. absurd (cc e)) (λ e. inr (ap (option_map fault_of) (sym e))) h
+pair-told pair.Memory o h = inl refl
+
+first-mapped : (o r : Option UpdateRefusal) (later : Option PrepareFault) (fault : PrepareFault) → option_map fault_of o ≡ Some fault → option_or (option_map fault_of (option_or o r)) later ≡ Some fault
+first-mapped None r later fault e = absurd (cc e)
+first-mapped (Some x) r later fault e = e
+
+module _ (H : List ℕ → Hash256) (u t : Tree) where
+  regrouped : refusal_of H u t ≡ option_or (tree_refusal H u t) (graft_refusal H u t)
+  regrouped = or-regrouped (hash_refusal H u t) (depth_refusal H u t) (half_refusal H u t) (graft_refusal H u t)
+
+  pub answer-pair : (fault : PairFault) (answer : PrepareFault) → answer ≡ of_pair fault → (fault ≡ pair.Memory) ⊎ (told fault ≡ tree_refusal H u t) → (answer ≡ Memory) ⊎ (update_fault H u t ≡ Some answer)
+  answer-pair fault answer is h =
+      subst (λ a. (a ≡ Memory) ⊎ (update_fault H u t ≡ Some a)) (sym is)
+      (⊎_elim
+      inl
+      (λ e.
+      inr
+      (ap (λ o. option_or (option_map fault_of o) (option_map (λ hash. NewClash hash) (clash_of H (new_faces H u t)))) regrouped
+      ∙ first-mapped (tree_refusal H u t) (graft_refusal H u t) (option_map (λ hash. NewClash hash) (clash_of H (new_faces H u t))) (of_pair fault) e))
+      (pair-told fault (tree_refusal H u t) h))
+
+  module _ (paired : tree_refusal H u t ≡ None) where
+    refused : refusal_of H u t ≡ graft_refusal H u t
+    refused = regrouped ∙ ap (λ o. option_or o (graft_refusal H u t)) paired
+
+    pub answer-graft : (fault : GraftFault) (answer : PrepareFault) → answer ≡ of_graft fault → (fault ≡ graft.Memory) ⊎ (foreign_hash fault ≡ first_foreign H (found_in H (known_of H u t)) (half_of u 1) 0) → (answer ≡ Memory) ⊎ (update_fault H u t ≡ Some answer)
+    answer-graft fault answer is h = subst (λ a. (a ≡ Memory) ⊎ (update_fault H u t ≡ Some a)) (sym is) (go fault h)
+      where
+        go : (fault : GraftFault) → (fault ≡ graft.Memory) ⊎ (foreign_hash fault ≡ first_foreign H (found_in H (known_of H u t)) (half_of u 1) 0) → (of_graft fault ≡ Memory) ⊎ (update_fault H u t ≡ Some (of_graft fault))
+        go (graft.Foreign hash) h =
+            ⊎_elim
+            (λ e. absurd (cc e))
+            (λ e.
+            inr
+            (ap (λ o. option_or (option_map fault_of o) (option_map (λ hash. NewClash hash) (clash_of H (new_faces H u t)))) (refused ∙ ap (option_map (λ x. foreign x)) (sym e))))
+            h
+        go graft.Memory h = inl refl
+
+    module _ (none : first_foreign H (found_in H (known_of H u t)) (half_of u 1) 0 ≡ None) where
+      pub no-refusal : refusal_of H u t ≡ None
+      no-refusal = refused ∙ ap (option_map (λ x. foreign x)) none
+
+      fault-is : update_fault H u t ≡ option_map (λ hash. NewClash hash) (clash_of H (new_faces H u t))
+      fault-is = ap (λ o. option_or (option_map fault_of o) (option_map (λ hash. NewClash hash) (clash_of H (new_faces H u t)))) no-refusal
+
+      module _ (faces : List FaceView) (are : faces ≡ new_faces H u t) where
+        pub answer-none : clash_of H faces ≡ None → update_fault H u t ≡ None
+        answer-none e = fault-is ∙ ap (λ fs. option_map (λ hash. NewClash hash) (clash_of H fs)) (sym are) ∙ ap (option_map (λ hash. NewClash hash)) e
+
+        pub answer-clash : (fault : PrepareFault) → (fault ≡ Memory) ⊎ ((hash : Hash256) × (clash_of H faces ≡ Some hash) × (fault ≡ NewClash hash)) → (fault ≡ Memory) ⊎ (update_fault H u t ≡ Some fault)
+        answer-clash fault h =
+            ⊎_elim
+            inl
+            (λ c.
+            inr
+            (fault-is ∙ ap (λ fs. option_map (λ hash. NewClash hash) (clash_of H fs)) (sym are) ∙ ap (option_map (λ hash. NewClash hash)) c.1 ∙ ap Some (sym c.2)))
+            h
+
+      pub applied-is : applied H u t ≡ Ok (grafted H (found_in H (known_of H u t)) (half_of u 1) 0)
+      applied-is = ap (λ o. or_refused o (grafted H (found_in H (known_of H u t)) (half_of u 1) 0)) no-refusal
+
+  -- what is known of the old tree is what its cells show
+  pub known-old : (known : List ChildInfo) → known ≡ each_once same_info (map (info_of H) (known_of H u t)) → (cells : List NewCell) (k : ChildInfo) → Contains known k → Contains (known_infos H cells (Some t)) k
+  known-old known are cells k h =
+      let met = Contains-map (info_of H) (known_of H u t) k (Contains-each_once_cases same_info same_info-Decides (map (info_of H) (known_of H u t)) k (subst (λ ks. Contains ks k) are h)) in
+      subst (Contains (known_infos H cells (Some t))) met.2
+      (Contains-append_right (map (info_of_new H) cells) (map (info_of H) (subtrees t)) (info_of H met.0)
+      (Contains-mapped (info_of H) (subtrees t) met.0 (subtree-known H (half_of u 0) t 0 met.0 met.1)))
+
+-- ---- the listed cells are the new ones
+
+module _ (H : List ℕ → Hash256) (own : List Tree) (faces : List FaceView) (are : faces ≡ each_once same_face (map (face_of H) own)) (clear : AreClear H faces) (cells : List NewCell) (listed : AreListed H faces cells) where
+  abbrev sorted : List Tree
+  sorted = sorted_distinct (export_cmp H) own
+
+  distinct : AreDistinct (export_cmp H) own sorted
+  distinct = AreDistinct-sorted_distinct (export_cmp H) (export_cmp-total H) own
+
+  face-own : (c : Tree) → Contains own c → Contains faces (face_of H c)
+  face-own c h =
+      subst (λ fs. Contains fs (face_of H c)) (sym are)
+      (Contains-each_once same_face same_face-Decides (map (face_of H) own) (face_of H c) (Contains-mapped (face_of H) own c h))
+
+  own-face : (f : FaceView) → Contains faces f → (c : Tree) × Contains own c × (face_of H c ≡ f)
+  own-face f h = Contains-map (face_of H) own f (Contains-each_once_cases same_face same_face-Decides (map (face_of H) own) f (subst (λ fs. Contains fs f) are h))
+
+  rep-face : (c : Tree) → rep_of H c ≡ rep_of_face H (face_of H c)
+  rep-face c = ap rep_of_info (info_of-face_of H c)
+
+  cell-face : (c : Tree) → new_cell_of H c ≡ new_cell_with H (face_of H c)
+  cell-face c = ap (λ x. let n : NewCell = record { hash = x; face = face_of H c } in n) (rep-face c)
+
+  ordered-new : AllPairs (λ a b. listing_cmp a b ≡ Less) (map (new_cell_of H) sorted)
+  ordered-new i j d before in-j =
+      let in-trees : j < length sorted = omega (arith, length-map sorted (new_cell_of H)) in
+      ap₂ listing_cmp (get_or-map (new_cell_of H) sorted i no_tree d (omega arith)) (get_or-map (new_cell_of H) sorted j no_tree d in-trees)
+      ∙ listing_cmp-new H (get_or sorted i no_tree) (get_or sorted j no_tree)
+      ∙ distinct.ordered i j no_tree before in-trees
+
+  into : (c : NewCell) → Contains cells c → Contains (map (new_cell_of H) sorted) c
+  into c h =
+      let face = listed.within c h in
+      let tree = own-face face.0 face.1 in
+      let tie = distinct.whole tree.0 tree.1 in
+      let reps : rep_of_face H (face_of H tie.0) ≡ rep_of_face H face.0 =
+      sym (rep-face tie.0) ∙ sym (export_cmp-ties H tree.0 tie.0 tie.2) ∙ rep-face tree.0 ∙ ap (rep_of_face H) tree.2
+      in
+      let same = clear (face_of H tie.0) face.0 (face-own tie.0 (distinct.within tie.0 tie.1)) face.1 reps in
+      subst (Contains (map (new_cell_of H) sorted)) (cell-face tie.0 ∙ ap (new_cell_with H) same ∙ sym face.2) (Contains-mapped (new_cell_of H) sorted tie.0 tie.1)
+
+  back : (c : NewCell) → Contains (map (new_cell_of H) sorted) c → Contains cells c
+  back c h =
+      let tree = Contains-map (new_cell_of H) sorted c h in
+      subst (Contains cells) (sym (cell-face tree.0) ∙ tree.2) (listed.whole (face_of H tree.0) (face-own tree.0 (distinct.within tree.0 tree.1)))
+
+  pub listed-new_cells : cells ≡ map (new_cell_of H) (sorted_distinct (export_cmp H) own)
+  listed-new_cells =
+      same-rising listing_cmp listing_cmp-total cells (map (new_cell_of H) sorted) (rises-from_AllPairs listing_cmp cells listed.ordered)
+      (rises-from_AllPairs listing_cmp (map (new_cell_of H) sorted) ordered-new) into back

@@ -1,0 +1,42 @@
+-- Updates applied to an old tree, and what preparing one answers.
+use Rattle.std.specs.Prelude.{◌≡◌, ℕ, List, ◌∷◌, map, Option, Some, Ok}
+use Rattle.std.specs.Option.{option_or, option_map}
+use Rattle.cd_base.specs.declared.hash.Hash256.{Hash256}
+use Rattle.cd_cell.specs.declared.info.ChildInfo.{ChildInfo}
+use Rattle.cd_cell.specs.declared.new_cell.NewCell.{NewCell}
+use Rattle.cd_cell.specs.FaceView.{FaceView}
+use Rattle.cd_cell.specs.Tree.{Tree, info_of, face_of}
+use Rattle.cd_cell.specs.Equality.{same_face}
+use Rattle.cd_cell.specs.Export.{export_cmp, sorted_distinct, AreClashFree}
+use Rattle.cd_cell.specs.Listings.{new_cell_of, Fits, tree_of}
+use Rattle.cd_cell.specs.Updates.{UpdateRefusal, old_hash, old_depth, old_half, foreign, refusal_of, applied, new_cells}
+use Rattle.cd_boc_read.specs.CellFaults.{clash_of}
+use Rattle.cd_update.specs.EachOnce.{each_once}
+use Rattle.cd_prepare.specs.declared.prepare_fault.PrepareFault.{PrepareFault}
+use Rattle.cd_prepare.specs.declared.prepare_fault.PrepareFault.TheVariants.{OldHash, OldDepth, OldHalf, Foreign, NewClash}
+
+abbrev pub fault_of : UpdateRefusal → PrepareFault
+fault_of (old_hash stated real) = OldHash stated real
+fault_of (old_depth stated real) = OldDepth stated real
+fault_of (old_half misfit) = OldHalf misfit.hash misfit.stored misfit.shown
+fault_of (foreign hash) = Foreign hash
+
+module _ (H : List ℕ → Hash256) (u t : Tree) where
+  -- the faces of the new cells, each once
+  abbrev pub new_faces : List FaceView
+  new_faces = each_once same_face (map (face_of H) (new_cells H u t))
+
+  -- why an update isn't prepared over an old tree: the first refusal, or else the least hash that two different new
+  -- cells share
+  abbrev pub update_fault : Option PrepareFault
+  update_fault = option_or (option_map fault_of (refusal_of H u t)) (option_map (λ hash. NewClash hash) (clash_of H new_faces))
+
+  -- a root and listed cells are those of the update applied to the old tree: they fit over that, and stand for the new
+  -- tree where the old tree and the new cells together are free of clashes
+  pub record IsApplied (root : ChildInfo) (cells : List NewCell) : Type 0 where
+    pub tree : Tree
+    pub is_applied : applied H u t ≡ Ok tree
+    pub root_is : root ≡ info_of H tree
+    pub cells_are : cells ≡ map (new_cell_of H) (sorted_distinct (export_cmp H) (new_cells H u t))
+    pub fits : Fits H root cells (Some t)
+    pub stands : AreClashFree H (t ∷ new_cells H u t) → tree_of H root cells (Some t) ≡ tree

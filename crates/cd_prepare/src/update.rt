@@ -1,0 +1,106 @@
+ghost use Rattle.std.specs.Prelude.{◌≡◌, ◌⊎◌, ◌<◌, ◌^◌, length, map, Contains, Some, None, IfOk, MatchResult};
+ghost use Rattle.cd_base.specs.declared.hash.Hash256.{Hash256};
+ghost use Rattle.cd_cell.specs.FaceView.{FaceView};
+ghost use Rattle.cd_cell.specs.Infos.{rep_of_info};
+ghost use Rattle.cd_cell.specs.Levels.{info_of_face, stated_hash};
+ghost use Rattle.cd_cell.specs.GoodFace.{IsGoodFace};
+ghost use Rattle.cd_cell.specs.Tree.{Tree, face_of};
+ghost use Rattle.cd_cell.specs.Bags.{bag_cell};
+ghost use Rattle.cd_boc_read.specs.CellFaults.{clash_of};
+ghost use Rattle.cd_update.specs.Pairing.{AreOf};
+ghost use Rattle.cd_prepare.specs.NewCells.{AreKeys, AreListed};
+ghost use Rattle.cd_prepare.specs.States.{Answers};
+ghost use Rattle.cd_prepare.specs.Applied.{update_fault, IsApplied};
+
+use crate::PrepareFault;
+use crate::key::Key;
+use crate::listing::{cells_of, sort};
+use cd_boc_read::clash_of;
+use cd_cell::{ChildInfo, Face, Hash32, NewCell, Prepared};
+use cd_update::{Update, graft, pair_old};
+use std::alloc::{AllocError, Global};
+
+/// The keys of cells by what they show.
+fn keys_of(alloc: Global, infos: &[ChildInfo]) -> Result<Vec<Key>, AllocError>
+    requires { length infos.now < 2 ^ 32 }
+    ensures { IfOk result (λ keys. AreKeys infos.now keys.items (length infos.now)) }
+{
+    let mut keys = Vec::with_capacity(alloc, infos.len())?;
+    for (number, info) in infos.iter().enumerate() {
+        keys.push(Key::of(info, number as u32))?;
+    }
+    Ok(keys)
+}
+
+/// Cells without clashes in the order of an export.
+fn listed<H: Hash32>(
+    alloc: Global,
+    faces: &[Face],
+    infos: &[ChildInfo],
+) -> Result<Vec<NewCell>, AllocError>
+    requires few { length infos.now < 2 ^ 32 }
+    requires shown { infos.now ≡ map (info_of_face H.digest_of) faces.now }
+    requires good { (face : FaceView) → Contains faces.now face → IsGoodFace face }
+    requires clear { clash_of H.digest_of faces.now ≡ None }
+    ensures { IfOk result (λ cells. AreListed H.digest_of faces.now cells.items) }
+{
+    let mut keys = keys_of(alloc, infos)?;
+    sort(&mut keys);
+    cells_of(alloc, faces, &keys)
+}
+
+/// Own cells in the order of an export, or the least hash that two of them share.
+fn new_cells<H: Hash32>(
+    alloc: Global,
+    faces: &[Face],
+    infos: &[ChildInfo],
+) -> Result<Vec<NewCell>, PrepareFault>
+    requires shown { infos.now ≡ map (info_of_face H.digest_of) faces.now }
+    requires good { (face : FaceView) → Contains faces.now face → IsGoodFace face }
+    ensures exact { MatchResult result (λ _. clash_of H.digest_of faces.now ≡ None)
+        (λ fault. (fault ≡ PrepareFault.Memory) ⊎ ((hash : Hash256) × (clash_of H.digest_of faces.now ≡ Some hash) × (fault ≡ PrepareFault.NewClash hash))) }
+    ensures cells { IfOk result (λ cells. AreListed H.digest_of faces.now cells.items) }
+{
+    if infos.len() > u32::MAX as usize {
+        return Err(PrepareFault::Memory);
+    }
+    match clash_of::<H>(alloc, faces, infos) {
+        Ok(None) => {}
+        Ok(Some(hash)) => return Err(PrepareFault::NewClash { hash }),
+        Err(_) => return Err(PrepareFault::Memory),
+    }
+    match listed::<H>(alloc, faces, infos) {
+        Ok(cells) => Ok(cells),
+        Err(_) => Err(PrepareFault::Memory),
+    }
+}
+
+/// The prepared value of an update over an old tree: its new cells. `root` is what the old tree's root shows, and
+/// `faces` has for each hash that the update wants the face that was found for it.
+pub fn prepare_update<H: Hash32>(
+    alloc: Global,
+    update: &Update<'_, H>,
+    root: &ChildInfo,
+    faces: &[Option<Face>],
+) -> Result<Prepared<H>, PrepareFault>
+    ensures old { IfOk result (λ value. value.old ≡ Some (stated_hash (face_of H.digest_of (bag_cell update.now.bag.now.cells update.now.bag.now.refs update.now.root)) 1)) }
+    ensures rep { IfOk result (λ value. rep_of_info value.root ≡ stated_hash (face_of H.digest_of (bag_cell update.now.bag.now.cells update.now.bag.now.refs update.now.root)) 33) }
+    // Over an old tree the answer is that of the tree.
+    ensures exact { (t : Tree) → AreOf H.digest_of t (bag_cell update.now.bag.now.cells update.now.bag.now.refs update.now.root) root.now faces.now
+        → Answers (update_fault H.digest_of (bag_cell update.now.bag.now.cells update.now.bag.now.refs update.now.root) t) result }
+    ensures applied { IfOk result (λ value. (t : Tree) → AreOf H.digest_of t (bag_cell update.now.bag.now.cells update.now.bag.now.refs update.now.root) root.now faces.now
+        → IsApplied H.digest_of (bag_cell update.now.bag.now.cells update.now.bag.now.refs update.now.root) t value.root value.cells) }
+{
+    let known = match pair_old(alloc, update, root, faces) {
+        Ok(known) => known,
+        Err(fault) => return Err(PrepareFault::from(fault)),
+    };
+    let new = match graft(alloc, update, &known) {
+        Ok(new) => new,
+        Err(fault) => return Err(PrepareFault::from(fault)),
+    };
+    match new_cells::<H>(alloc, new.cells.as_slice(), new.infos.as_slice()) {
+        Ok(cells) => Ok(Prepared::new(Some(root.hash_at(0)), new.root, cells)),
+        Err(fault) => Err(fault),
+    }
+}

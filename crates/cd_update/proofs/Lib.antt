@@ -1,0 +1,14 @@
+pub mod EachOnceLaws
+pub mod Walks
+pub mod VisitLaws
+pub mod BagNodes
+pub mod Walking
+pub mod PlaceLaws
+pub mod PairingLaws
+pub mod OldInfos
+pub mod IndexLaws
+pub mod OldTrees
+pub mod HalfVisits
+pub mod GraftInfos
+pub mod GraftVisits
+pub mod GraftTrees

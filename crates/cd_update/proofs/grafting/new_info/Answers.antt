@@ -1,0 +1,55 @@
+-- A hidden cell gives way to the one info that stands for it; a visible one shows what its face says.
+use Rattle.std.proofs.Common.{ap, sym, subst, ◌∙◌}
+use Rattle.cd_cell.specs.Levels.{info_of_face}
+use Rattle.cd_cell.specs.Fit.{IsFaceFit}
+use Rattle.cd_cell.specs.Bags.{bag_cell}
+use Rattle.cd_cell.specs.Updates.{is_hidden}
+use Rattle.cd_cell.proofs.Subtrees.{info_of-face_of}
+use Rattle.cd_update.specs.Pairing.{upto}
+use Rattle.cd_update.proofs.GraftInfos.{face-good, info-visible}
+use Rattle.cd_update.proofs.GraftVisits.{info-hidden, visit-ready}
+use Rattle.cd_update.proofs.grafting.new_info.Goals as goal
+
+pub returns-then-is_hidden : goal.returns-then-is_hidden
+returns-then-is_hidden g c =
+    let H = g.H.Hash32.digest_of in
+    let bag = c.args.bag.now in
+    let walk = c.args.walk.now in
+    let v = c.args.visit.now in
+    let hidden = ap (is_hidden v.node.depth) c.face-shown.ensures.cell ∙ sym c.is_hidden.ensures ∙ c.if-is_hidden.true in
+    c.info_upto.ensures
+    ∙ ap (upto v.node.depth) c.shown_info-info.ensures.info
+    ∙ sym (info-hidden H c.args.known.now.infos bag.cells bag.refs bag.roots bag.is_bag c.args.start.now walk.visits.items walk.numbers.items c.requires.grafting v c.requires.visited hidden)
+
+pub returns-then-eq : goal.returns-then-eq
+returns-then-eq g c =
+    let H = g.H.Hash32.digest_of in
+    let bag = c.args.bag.now in
+    let n = c.args.visit.now.node in
+    let t = bag_cell bag.cells bag.refs n.entry in
+    let shown = ap (is_hidden n.depth) c.face-shown.ensures.cell ∙ sym c.is_hidden.ensures ∙ c.if-is_hidden.false in
+    let same = c.eq.ensures.value.0 c.if-eq.true in
+    c.shown_info-info.ensures.info
+    ∙ info_of-face_of H t
+    ∙ ap (info_of_face H) (c.face-shown.ensures.cell ∙ sym same ∙ c.new_face-face.ensures)
+    ∙ sym (info-visible H c.args.known.now.infos c.requires.grafting.old t n.depth shown)
+
+pub face_info-requires-after_bounds : goal.face_info-requires-after_bounds
+face_info-requires-after_bounds g c κs within =
+    let H = g.H.Hash32.digest_of in
+    let bag = c.args.bag.now in
+    let walk = c.args.walk.now in
+    let v = c.args.visit.now in
+    let t = bag_cell bag.cells bag.refs v.node.entry in
+    let shown = ap (is_hidden v.node.depth) c.face-shown.ensures.cell ∙ sym c.is_hidden.ensures ∙ c.if-is_hidden.false in
+    let ready = visit-ready H c.args.known.now.infos bag.cells bag.refs bag.roots bag.is_bag c.args.start.now walk.visits.items walk.numbers.items c.requires.grafting v c.requires.visited in
+    subst IsFaceFit (sym c.new_face-face.ensures) (face-good H c.args.known.now.infos c.requires.grafting.old t v.node.depth ready shown).good.fit
+
+pub returns : goal.returns
+returns g c =
+    let H = g.H.Hash32.digest_of in
+    let bag = c.args.bag.now in
+    let n = c.args.visit.now.node in
+    let t = bag_cell bag.cells bag.refs n.entry in
+    let shown = ap (is_hidden n.depth) c.face-shown.ensures.cell ∙ sym c.is_hidden.ensures ∙ c.if-is_hidden.false in
+    c.face_info.ensures.face ∙ ap (info_of_face H) c.new_face-face.ensures ∙ sym (info-visible H c.args.known.now.infos c.requires.grafting.old t n.depth shown)

@@ -1,0 +1,102 @@
+-- A spot has the number of the visit that it is of, which is worked out now.
+use Rattle.std.proofs.Common.{◌≡◌, ◌<◌, ◌-◌, ◌+◌, length, get_or, None, Some, sym, ap, subst, ◌∙◌, arith}
+use Rattle.std.proofs.lemmas.List.{get_or_default}
+use Rattle.cd_update.specs.Visits.{spot, visit_at, no_visit}
+use Rattle.cd_update.specs.Grafts.{AreGrafted, grafted_info}
+use Rattle.cd_cell.specs.Bags.{bag_cell}
+use Rattle.cd_update.proofs.GraftVisits.{grafted-start, grafted-skip, grafted-more}
+use Rattle.cd_update.proofs.grafting.new_infos.Goals as goal
+
+pub loop-left-init : goal.loop-left-init
+loop-left-init g c =
+    let bag = c.args.bag.now in
+    let walk = c.args.walk.now in
+    let count = c.in_ok-infos.ensures.len in
+    record {
+      grafted =
+          grafted-start g.H.Hash32.digest_of c.args.known.now.infos bag.cells bag.refs bag.roots bag.is_bag c.args.start.now walk.visits.items walk.numbers.items c.requires c.in_ok-infos.infos.items c.len-left.result
+          (omega (arith, count, c.len.ensures, c.in_ok-infos.infos.ok, walk.visits.ok))
+          (omega (arith, c.len-left.ensures, walk.numbers.ok));
+      low = omega (arith, c.len-left.ensures, walk.numbers.ok);
+    }
+
+pub index-visit-requires : goal.index-visit-requires
+index-visit-requires g c =
+    let walk = c.args.walk.now in
+    let left = c.loop-left.left - 1 in
+    let in' : left < length walk.numbers.items = omega (arith, c.loop-left.invariant.low) in
+    let some : get_or walk.numbers.items left None ≡ Some c.in-Some.number = get_or_default walk.numbers.items left None c.index.result.now in' ∙ sym c.index.ensures ∙ c.in-Some.is in
+    omega (arith, (walk.numbered.back left c.in-Some.number some).0, walk.visits.ok)
+
+pub new_info-info-requires-clause-visited : goal.new_info-info-requires-clause-visited
+new_info-info-requires-clause-visited g c κs within =
+    let walk = c.args.walk.now in
+    let left = c.loop-left.left - 1 in
+    let in' : left < length walk.numbers.items = omega (arith, c.loop-left.invariant.low) in
+    let some : get_or walk.numbers.items left None ≡ Some c.in-Some.number = get_or_default walk.numbers.items left None c.index.result.now in' ∙ sym c.index.ensures ∙ c.in-Some.is in
+    (c.in-Some.number, (walk.numbered.back left c.in-Some.number some).0, sym c.index-visit.ensures)
+
+pub new_info-info-requires-clause-grafted : goal.new_info-info-requires-clause-grafted
+new_info-info-requires-clause-grafted g c κs within =
+    let walk = c.args.walk.now in
+    let bag = c.args.bag.now in
+    let left = c.loop-left.left - 1 in
+    let in' : left < length walk.numbers.items = omega (arith, c.loop-left.invariant.low) in
+    let some : get_or walk.numbers.items left None ≡ Some c.in-Some.number = get_or_default walk.numbers.items left None c.index.result.now in' ∙ sym c.index.ensures ∙ c.in-Some.is in
+    let back = walk.numbered.back left c.in-Some.number some in
+    let read : c.index-visit.result.now ≡ visit_at walk.visits.items c.in-Some.number = c.index-visit.ensures ∙ get_or_default walk.visits.items c.in-Some.number c.index-visit.result.now no_visit back.0 in
+    let here : c.loop-left.left ≡ spot c.index-visit.result.now.node + 1 = omega (arith, ap (λ v. spot v.node) read, back.1) in
+    subst (λ from. AreGrafted g.H.Hash32.digest_of c.args.known.now.infos bag.cells bag.refs walk.visits.items from c.as_slice.result.now) here
+    (subst (AreGrafted g.H.Hash32.digest_of c.args.known.now.infos bag.cells bag.refs walk.visits.items c.loop-left.left) (sym c.as_slice.ensures.value) c.loop-left.invariant.grafted)
+
+pub index_mut-requires : goal.index_mut-requires
+index_mut-requires g c =
+    let walk = c.args.walk.now in
+    let left = c.loop-left.left - 1 in
+    let in' : left < length walk.numbers.items = omega (arith, c.loop-left.invariant.low) in
+    let some : get_or walk.numbers.items left None ≡ Some c.in-Some.number = get_or_default walk.numbers.items left None c.index.result.now in' ∙ sym c.index.ensures ∙ c.in-Some.is in
+    omega (arith, (walk.numbered.back left c.in-Some.number some).0, c.loop-left.invariant.grafted.counted, c.loop-left.infos.ok)
+
+pub loop-left-preserved-in-Some : goal.loop-left-preserved-in-Some
+loop-left-preserved-in-Some g c =
+    let H = g.H.Hash32.digest_of in
+    let known = c.args.known.now.infos in
+    let walk = c.args.walk.now in
+    let bag = c.args.bag.now in
+    let left = c.loop-left.left - 1 in
+    let in' : left < length walk.numbers.items = omega (arith, c.loop-left.invariant.low) in
+    let some : get_or walk.numbers.items left None ≡ Some c.in-Some.number = get_or_default walk.numbers.items left None c.index.result.now in' ∙ sym c.index.ensures ∙ c.in-Some.is in
+    let back = walk.numbered.back left c.in-Some.number some in
+    let read : c.index-visit.result.now ≡ visit_at walk.visits.items c.in-Some.number = c.index-visit.ensures ∙ get_or_default walk.visits.items c.in-Some.number c.index-visit.result.now no_visit back.0 in
+    let next : c.loop-left.left ≡ left + 1 = omega arith in
+    record {
+      grafted =
+          grafted-more H known bag.cells bag.refs bag.roots bag.is_bag c.args.start.now walk.visits.items walk.numbers.items c.requires c.loop-left.infos.items left walk.numbered
+          (subst (λ from. AreGrafted H known bag.cells bag.refs walk.visits.items from c.loop-left.infos.items) next c.loop-left.invariant.grafted)
+          c.in-Some.number c.new_info-info.result some
+          (c.new_info-info.ensures ∙ ap (λ v. grafted_info H known (bag_cell bag.cells bag.refs v.node.entry) v.node.depth) read);
+      low = omega (arith, c.loop-left.invariant.low);
+    }
+
+pub loop-left-preserved : goal.loop-left-preserved
+loop-left-preserved g c =
+    let H = g.H.Hash32.digest_of in
+    let known = c.args.known.now.infos in
+    let walk = c.args.walk.now in
+    let bag = c.args.bag.now in
+    let left = c.loop-left.left - 1 in
+    let in' : left < length walk.numbers.items = omega (arith, c.loop-left.invariant.low) in
+    let none : get_or walk.numbers.items left None ≡ None = get_or_default walk.numbers.items left None c.index.result.now in' ∙ sym c.index.ensures ∙ c.in_default.is in
+    let next : c.loop-left.left ≡ left + 1 = omega arith in
+    record {
+      grafted =
+          grafted-skip H known bag.cells bag.refs bag.roots bag.is_bag c.args.start.now walk.visits.items walk.numbers.items c.requires c.loop-left.infos.items left walk.numbered
+          (subst (λ from. AreGrafted H known bag.cells bag.refs walk.visits.items from c.loop-left.infos.items) next c.loop-left.invariant.grafted) none;
+      low = omega (arith, c.loop-left.invariant.low);
+    }
+
+pub returns : goal.returns
+returns g c =
+    let bag = c.args.bag.now in
+    let end : c.loop-left.left ≡ 0 = omega arith in
+    subst (λ from. AreGrafted g.H.Hash32.digest_of c.args.known.now.infos bag.cells bag.refs c.args.walk.now.visits.items from c.loop-left.infos.items) end c.loop-left.invariant.grafted

@@ -1,0 +1,46 @@
+ghost use Rattle.std.specs.Prelude.{◌≡◌, ◌<◌, length, [], slice_index_or, IfOk, OnOk};
+ghost use Rattle.cd_cell.specs.Infos.{no_hash};
+ghost use Rattle.cd_cell.specs.Equality.{same_hash};
+ghost use Rattle.cd_update.specs.EachOnce.{with_new};
+ghost use Rattle.cd_update.specs.Indexes.{IsIndex};
+
+use crate::index::Index;
+use cd_base::{Hash256, Memory};
+use std::alloc::Global;
+
+/// Hashes in the order in which they came, each once.
+#[derive(Drop)]
+pub(crate) struct Hashes {
+    pub all: Vec<Hash256>,
+    pub index: Index,
+}
+
+impl Hashes {
+    /// No hash.
+    pub fn new(alloc: Global) -> Hashes
+        ensures all { result.all.items ≡ [] }
+        ensures indexed { IsIndex result.index result.all.items }
+    {
+        Hashes {
+            all: Vec::new(alloc),
+            index: Index::new(alloc),
+        }
+    }
+
+    /// The place of a hash, which is put behind the others where it isn't there.
+    pub fn place_of(&mut self, hash: Hash256) -> Result<usize, Memory>
+        requires { IsIndex self.old.index self.old.all.items }
+        ensures indexed { OnOk result (IsIndex self.new.index self.new.all.items) }
+        ensures all { IfOk result (λ _. self.new.all.items ≡ with_new same_hash self.old.all.items hash) }
+        ensures below { IfOk result (λ place. place < length self.new.all.items) }
+        ensures place { IfOk result (λ place. slice_index_or self.new.all.items place no_hash ≡ hash) }
+    {
+        if let Some(place) = self.index.place(&hash) {
+            return Ok(place);
+        }
+        let place = self.all.len();
+        self.all.push(hash)?;
+        self.index.push(hash, place)?;
+        Ok(place)
+    }
+}

@@ -1,0 +1,80 @@
+ghost use Rattle.std.specs.Prelude.{◌≡◌, [], ◌∷◌, ◌++◌, map, length, IfOk, OnOk};
+ghost use Rattle.std.specs.List.{list_any};
+ghost use Rattle.cd_cell.specs.Infos.{rep_of_info};
+ghost use Rattle.cd_cell.specs.Levels.{info_of_face};
+ghost use Rattle.cd_cell.specs.Equality.{same_face};
+ghost use Rattle.cd_update.specs.EachOnce.{with_new};
+ghost use Rattle.cd_update.specs.Indexes.{IsIndex};
+
+use crate::index::Index;
+use cd_base::Memory;
+use cd_cell::{ChildInfo, Face, Hash32};
+use std::alloc::Global;
+
+/// Own cells in the order in which they came, each once, with what they show.
+#[derive(Drop)]
+pub(crate) struct Own {
+    pub cells: Vec<Face>,
+    pub infos: Vec<ChildInfo>,
+    pub index: Index,
+}
+
+/// Whether a face is among these.
+fn is_among(faces: &[Face], face: &Face) -> bool
+    ensures { result ≡ list_any (same_face face.now) faces.now }
+{
+    for other in faces {
+        if *face == *other {
+            return true;
+        }
+    }
+    false
+}
+
+impl Own {
+    /// No cell.
+    pub fn new(alloc: Global) -> Own
+        ensures cells { result.cells.items ≡ [] }
+        ensures infos { result.infos.items ≡ [] }
+        ensures indexed { IsIndex result.index (map rep_of_info result.infos.items) }
+    {
+        Own {
+            cells: Vec::new(alloc),
+            infos: Vec::new(alloc),
+            index: Index::new(alloc),
+        }
+    }
+
+    /// Whether a face with this info is here. It is found by its hash; where another one has it, all are looked at.
+    fn has<H: Hash32>(&self, face: &Face, info: &ChildInfo) -> bool
+        requires info { info.now ≡ info_of_face H.digest_of face.now }
+        requires infos { self.now.infos.items ≡ map (info_of_face H.digest_of) self.now.cells.items }
+        requires indexed { IsIndex self.now.index (map rep_of_info self.now.infos.items) }
+        ensures { result ≡ list_any (same_face face.now) self.now.cells.items }
+    {
+        match self.index.place(&info.rep()) {
+            None => false,
+            Some(place) if self.cells[place] == *face => true,
+            Some(_) => is_among(&self.cells, face),
+        }
+    }
+
+    /// One cell more, where it isn't there.
+    pub fn add<H: Hash32>(&mut self, face: Face, info: ChildInfo) -> Result<(), Memory>
+        requires info { info ≡ info_of_face H.digest_of face }
+        requires infos { self.old.infos.items ≡ map (info_of_face H.digest_of) self.old.cells.items }
+        requires indexed { IsIndex self.old.index (map rep_of_info self.old.infos.items) }
+        ensures cells { OnOk result (self.new.cells.items ≡ with_new same_face self.old.cells.items face) }
+        ensures infos { OnOk result (self.new.infos.items ≡ map (info_of_face H.digest_of) self.new.cells.items) }
+        ensures indexed { OnOk result (IsIndex self.new.index (map rep_of_info self.new.infos.items)) }
+    {
+        if self.has::<H>(&face, &info) {
+            return Ok(());
+        }
+        let place = self.infos.len();
+        self.cells.push(face)?;
+        self.infos.push(info)?;
+        self.index.push(info.rep(), place)?;
+        Ok(())
+    }
+}

@@ -1,0 +1,151 @@
+ghost use Rattle.std.specs.Prelude.{◌≡◌, ◌⊎◌, ◌≤◌, All, map, slice_index_or, None, Some, IfOk, MatchOption, MatchResult};
+ghost use Rattle.std.specs.List.{flat_map};
+ghost use Rattle.std.specs.Option.{option_map};
+ghost use Rattle.cd_cell.specs.Tree.{Tree, info_of, hash_at, depth_at};
+ghost use Rattle.cd_cell.specs.Equality.{same_hash, same_info};
+ghost use Rattle.cd_cell.specs.Bags.{bag_cell};
+ghost use Rattle.cd_cell.specs.Updates.{half_of, old_half, known_of};
+ghost use Rattle.cd_update.specs.EachOnce.{each_once, first_of};
+ghost use Rattle.cd_update.specs.Places.{places};
+ghost use Rattle.cd_update.specs.Nodes.{IsShown};
+ghost use Rattle.cd_update.specs.Visits.{visited};
+ghost use Rattle.cd_update.specs.Pairing.{unlike, beside, root_refusal, wanted_at, known_at, misfit_at, pair_refusal, tree_refusal, AreOf};
+ghost use Rattle.cd_update.specs.Faults.{told};
+
+use crate::agree::agree;
+use crate::hashes::Hashes;
+use crate::hidden::shown_info;
+use crate::known::{Infos, Known};
+use crate::pair_fault::PairFault;
+use crate::update::Update;
+use crate::upto::info_upto;
+use crate::visit::Visit;
+use crate::walk::visit_all;
+use crate::wanted::hash_of_visible;
+use cd_base::{Hash256, Memory};
+use cd_cell::{Bag, ChildInfo, Face, Hash32, Listed};
+use std::alloc::Global;
+
+/// Whether an update states the hash and the depth of an old root at level 0.
+fn check_root<H: Hash32>(update: &Update<'_, H>, root: &ChildInfo) -> Result<(), PairFault>
+    ensures { MatchResult result
+        (λ _. root_refusal (hash_at H.digest_of (half_of (bag_cell update.now.bag.now.cells update.now.bag.now.refs update.now.root) 0) 0) (depth_at H.digest_of (half_of (bag_cell update.now.bag.now.cells update.now.bag.now.refs update.now.root) 0) 0) root.now ≡ None)
+        (λ fault. root_refusal (hash_at H.digest_of (half_of (bag_cell update.now.bag.now.cells update.now.bag.now.refs update.now.root) 0) 0) (depth_at H.digest_of (half_of (bag_cell update.now.bag.now.cells update.now.bag.now.refs update.now.root) 0) 0) root.now ≡ told fault) }
+{
+    let half = shown_info(update.bag, &update.half(0));
+    let stated = half.hash_at(0);
+    let real = root.hash_at(0);
+    if stated != real {
+        return Err(PairFault::OldHash { stated, real });
+    }
+    let stated = half.depth_at(0);
+    let real = root.depth_at(0);
+    if stated != real {
+        return Err(PairFault::OldDepth { stated, real });
+    }
+    Ok(())
+}
+
+/// A shown face and the one that was found for it, where they don't agree.
+fn unlike_face(
+    faces: &[Option<Face>],
+    place: usize,
+    shown: &Face,
+    depth: u8,
+    hash: Hash256,
+) -> Option<PairFault>
+    requires { depth ≤ 3 }
+    ensures { MatchOption result (unlike depth hash (slice_index_or faces.now place None) shown.now ≡ None)
+        (λ fault. told fault ≡ option_map old_half (unlike depth hash (slice_index_or faces.now place None) shown.now)) }
+{
+    match faces.get(place) {
+        Some(Some(stored)) if agree(stored, shown, depth) => None,
+        Some(Some(stored)) => Some(PairFault::OldHalf {
+            hash,
+            stored: *stored,
+            shown: *shown,
+        }),
+        _ => Some(PairFault::OldHalf {
+            hash,
+            stored: *shown,
+            shown: *shown,
+        }),
+    }
+}
+
+/// The first visit that doesn't agree with the face that stands beside its hash.
+fn check_visits<H: Hash32>(
+    alloc: Global,
+    bag: &Bag<H>,
+    visits: &[Visit],
+    faces: &[Option<Face>],
+) -> Result<(), PairFault>
+    requires { All (IsShown H.digest_of bag.now.cells) visits.now }
+    ensures { MatchResult result
+        (λ _. first_of (misfit_at H.digest_of (beside (each_once same_hash (flat_map (wanted_at H.digest_of) (visited bag.now.cells bag.now.refs visits.now))) faces.now)) (visited bag.now.cells bag.now.refs visits.now) ≡ None)
+        (λ fault. (fault ≡ PairFault.Memory) ⊎ (told fault ≡ option_map old_half (first_of (misfit_at H.digest_of (beside (each_once same_hash (flat_map (wanted_at H.digest_of) (visited bag.now.cells bag.now.refs visits.now))) faces.now)) (visited bag.now.cells bag.now.refs visits.now)))) }
+{
+    let mut hashes = Hashes::new(alloc);
+    for visit in visits {
+        let Some(hash) = hash_of_visible(bag, visit) else {
+            continue;
+        };
+        let Ok(place) = hashes.place_of(hash) else {
+            return Err(PairFault::Memory);
+        };
+        let shown = bag.face(visit.node.entry);
+        if let Some(fault) = unlike_face(faces, place, shown, visit.node.depth, hash) {
+            return Err(fault);
+        }
+    }
+    Ok(())
+}
+
+/// What the old cells show that some visits met.
+fn infos_of<H: Hash32>(alloc: Global, bag: &Bag<H>, visits: &[Visit]) -> Result<Known, Memory>
+    requires { All (IsShown H.digest_of bag.now.cells) visits.now }
+    ensures { IfOk result (λ known. known.infos ≡ each_once same_info (flat_map (known_at H.digest_of) (visited bag.now.cells bag.now.refs visits.now))) }
+{
+    let mut infos = Infos::new(alloc);
+    for visit in visits {
+        infos.add(info_upto(shown_info(bag, visit), visit.node.depth))?;
+    }
+    Ok(Known {
+        infos: Listed::from(infos.all),
+        index: infos.index,
+    })
+}
+
+/// Pairs the old half of an update with an old tree, by what its root shows and by the faces that stand beside
+/// the wanted hashes. Each cell of the bag is visited once for each of its Merkle depths. Where the root and the
+/// faces aren't those of a tree, nothing is said of what comes but what the faces themselves tell.
+pub fn pair_old<H: Hash32>(
+    alloc: Global,
+    update: &Update<'_, H>,
+    root: &ChildInfo,
+    faces: &[Option<Face>],
+) -> Result<Known, PairFault>
+    ensures refused { MatchResult result (λ _. pair_refusal H.digest_of (bag_cell update.now.bag.now.cells update.now.bag.now.refs update.now.root) root.now faces.now ≡ None)
+        (λ fault. (fault ≡ PairFault.Memory) ⊎ (told fault ≡ pair_refusal H.digest_of (bag_cell update.now.bag.now.cells update.now.bag.now.refs update.now.root) root.now faces.now)) }
+    ensures infos { IfOk result (λ known. known.infos ≡ each_once same_info (flat_map (known_at H.digest_of) (places H.digest_of (half_of (bag_cell update.now.bag.now.cells update.now.bag.now.refs update.now.root) 0) 0))) }
+    // Over an old tree the refusals are those of the tree, and the known cells are its cells.
+    ensures tree { (t : Tree) → AreOf H.digest_of t (bag_cell update.now.bag.now.cells update.now.bag.now.refs update.now.root) root.now faces.now → MatchResult result
+        (λ known. (tree_refusal H.digest_of (bag_cell update.now.bag.now.cells update.now.bag.now.refs update.now.root) t ≡ None)
+        × (known.infos ≡ each_once same_info (map (info_of H.digest_of) (known_of H.digest_of (bag_cell update.now.bag.now.cells update.now.bag.now.refs update.now.root) t))))
+        (λ fault. (fault ≡ PairFault.Memory) ⊎ (told fault ≡ tree_refusal H.digest_of (bag_cell update.now.bag.now.cells update.now.bag.now.refs update.now.root) t)) }
+{
+    if let Err(fault) = check_root(update, root) {
+        return Err(fault);
+    }
+    let Ok(walk) = visit_all(alloc, update.bag, update.half(0)) else {
+        return Err(PairFault::Memory);
+    };
+    let visits = walk.visits.as_slice();
+    if let Err(fault) = check_visits(alloc, update.bag, visits, faces) {
+        return Err(fault);
+    }
+    match infos_of(alloc, update.bag, visits) {
+        Ok(known) => Ok(known),
+        Err(_) => Err(PairFault::Memory),
+    }
+}
