@@ -153,7 +153,7 @@ fn pruned(hash: u8) -> [u8; 38] {
     text
 }
 
-// A bag of an update and of so many other cells, which have these texts together.
+// A bag of so many cells: an update and others with these texts.
 fn update_bag(
     alloc: Global,
     update: &[u8],
@@ -164,8 +164,8 @@ fn update_bag(
     for text in texts {
         cells.extend_from_slice(text)?;
     }
-    let mut bytes = [1, 1, count + 1, 1, 0, 0, 0].to_vec(alloc)?;
-    bytes[5] = cells.len() as u8;
+    let mut bytes = [1, 1, count, 1, 0, 0, 0].to_vec(alloc)?;
+    bytes[5] = u8::try_from(cells.len()).unwrap_or(0);
     bytes.extend_from_slice(&cells)?;
     Ok(bytes)
 }
@@ -187,7 +187,7 @@ fn prepared(
 #[test]
 fn an_update_that_changes_nothing_has_no_new_cell(rt: HostRuntime) -> Result<(), Fail> {
     let alloc = rt.alloc();
-    let bytes = update_bag(alloc, &update(3, 0, 1, 1), 1, &[&pruned(3)])?;
+    let bytes = update_bag(alloc, &update(3, 0, 1, 1), 2, &[&pruned(3)])?;
     let value = prepared(alloc, &bytes, 3, &[])??;
     assert_eq!(rt; value.old, Some(weak(3)));
     assert_eq!(rt; value.root, root(3));
@@ -204,7 +204,7 @@ fn an_update_that_changes_nothing_has_no_new_cell(rt: HostRuntime) -> Result<(),
 fn a_new_half_of_one_cell_is_listed(rt: HostRuntime) -> Result<(), Fail> {
     let alloc = rt.alloc();
     let update = update(18, 0, 1, 2);
-    let bytes = update_bag(alloc, &update, 2, &[&pruned(3), &[0, 2, 16]])?;
+    let bytes = update_bag(alloc, &update, 3, &[&pruned(3), &[0, 2, 16]])?;
     let value = prepared(alloc, &bytes, 3, &[])??;
     assert_eq!(rt; value.root.rep(), weak(18));
     let [cell] = value.cells.as_slice() else {
@@ -218,7 +218,7 @@ fn a_new_half_of_one_cell_is_listed(rt: HostRuntime) -> Result<(), Fail> {
 fn an_equal_hash_over_another_face_is_told(rt: HostRuntime) -> Result<(), Fail> {
     let alloc = rt.alloc();
     // The old half is the cell of the byte 01; the old tree is the cell of six bits, of the same sum.
-    let bytes = update_bag(alloc, &update(3, 0, 1, 1), 1, &[&[0, 2, 1]])?;
+    let bytes = update_bag(alloc, &update(3, 0, 1, 1), 2, &[&[0, 2, 1]])?;
     let shown = Face::new(false, Bits::from_slice(&[1], 8).ok_or("bits")?, &[]);
     let stored = Face::new(false, Bits::from_slice(&[0], 6).ok_or("bits")?, &[]);
     let due = Some(PrepareFault::OldHalf {
@@ -233,7 +233,7 @@ fn an_equal_hash_over_another_face_is_told(rt: HostRuntime) -> Result<(), Fail> 
 #[test]
 fn a_hidden_cell_that_was_not_met_is_told(rt: HostRuntime) -> Result<(), Fail> {
     let alloc = rt.alloc();
-    let bytes = update_bag(alloc, &update(5, 0, 1, 2), 2, &[&pruned(3), &pruned(5)])?;
+    let bytes = update_bag(alloc, &update(5, 0, 1, 2), 3, &[&pruned(3), &pruned(5)])?;
     let due = Some(PrepareFault::Foreign { hash: weak(5) });
     assert!(rt; prepared(alloc, &bytes, 3, &[])?.err() == due);
     Ok(())
@@ -244,7 +244,7 @@ fn two_new_cells_of_one_hash_are_told(rt: HostRuntime) -> Result<(), Fail> {
     let alloc = rt.alloc();
     // The new root has a cell over the hidden one, whose hash becomes 4, and the cell of the byte 02.
     let texts: [&[u8]; 4] = [&[34, 0, 2, 3], &[33, 0, 4], &[0, 2, 2], &pruned(3)];
-    let bytes = update_bag(alloc, &update(11, 2, 4, 1), 4, &texts)?;
+    let bytes = update_bag(alloc, &update(11, 2, 4, 1), 5, &texts)?;
     let due = Some(PrepareFault::NewClash { hash: weak(4) });
     assert!(rt; prepared(alloc, &bytes, 3, &[])?.err() == due);
     Ok(())
