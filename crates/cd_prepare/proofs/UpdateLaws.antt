@@ -1,6 +1,7 @@
 -- Laws of prepared updates: which fault comes, and what the listed cells are over an old tree.
 use Rattle.std.proofs.Common.{◌≡◌, ℕ, ◌<◌, List, length, get_or, map, AllPairs, Contains, Option, Some, None, Ok, Less, refl, ap, ap₂, sym, ◌∙◌, subst, inl, inr, ⊎_elim, ◌⊎◌, arith}
 use Rattle.std.specs.Option.{option_or, option_map}
+use Rattle.std.specs.List.{flat_map}
 use Rattle.std.proofs.lemmas.List.{length-map, get_or-map}
 use Rattle.std.proofs.lemmas.List.Elements.{Contains-append_right}
 use Rattle.cd_base.specs.declared.hash.Hash256.{Hash256}
@@ -25,15 +26,17 @@ use Rattle.cd_update.specs.declared.pair_fault.PairFault.{PairFault}
 use Rattle.cd_update.specs.declared.pair_fault.PairFault.TheVariants as pair
 use Rattle.cd_update.specs.declared.graft_fault.GraftFault.{GraftFault}
 use Rattle.cd_update.specs.declared.graft_fault.GraftFault.TheVariants as graft
-use Rattle.cd_update.specs.EachOnce.{each_once}
+use Rattle.cd_update.specs.EachOnce.{each_once, first_of}
+use Rattle.cd_update.specs.Places.{places}
+use Rattle.cd_update.specs.Grafts.{own_face_at, foreign_at}
 use Rattle.cd_update.specs.Faults.{told, foreign_hash}
-use Rattle.cd_update.specs.Pairing.{tree_refusal}
+use Rattle.cd_update.specs.Pairing.{tree_refusal, pair_refusal}
 use Rattle.cd_update.proofs.EachOnceLaws.{Contains-each_once, Contains-each_once_cases}
 use Rattle.cd_prepare.specs.declared.prepare_fault.PrepareFault.{PrepareFault}
-use Rattle.cd_prepare.specs.declared.prepare_fault.PrepareFault.TheVariants.{Memory, NewClash}
+use Rattle.cd_prepare.specs.declared.prepare_fault.PrepareFault.TheVariants.{Foreign, Memory, NewClash}
 use Rattle.cd_prepare.specs.UpdateFaults.{of_pair, of_graft}
 use Rattle.cd_prepare.specs.NewCells.{new_cell_with, AreListed}
-use Rattle.cd_prepare.specs.Applied.{fault_of, new_faces, update_fault}
+use Rattle.cd_prepare.specs.Applied.{fault_of, met_infos, own_faces, faces_fault, new_faces, update_fault}
 use Rattle.cd_prepare.proofs.NewLists.{AreClear, listing_cmp-total}
 
 -- ---- which fault comes
@@ -116,6 +119,47 @@ module _ (H : List ℕ → Hash256) (u t : Tree) where
       subst (Contains (known_infos H cells (Some t))) met.2
       (Contains-append_right (map (info_of_new H) cells) (map (info_of H) (subtrees t)) (info_of H met.0)
       (Contains-mapped (info_of H) (subtrees t) met.0 (subtree-known H (half_of u 0) t 0 met.0 met.1)))
+
+-- ---- which fault comes by the faces alone
+
+first-some : {A : Type 0} (o p : Option A) (x : A) → o ≡ Some x → option_or o p ≡ Some x
+first-some o p x e = ap (λ q. option_or q p) e
+
+module _ (H : List ℕ → Hash256) (u : Tree) (root : ChildInfo) (faces : List (Option FaceView)) where
+  pub told-pair : (fault : PairFault) (answer : PrepareFault) → answer ≡ of_pair fault → (fault ≡ pair.Memory) ⊎ (told fault ≡ pair_refusal H u root faces) → (answer ≡ Memory) ⊎ (faces_fault H u root faces ≡ Some answer)
+  told-pair fault answer is h =
+      subst (λ a. (a ≡ Memory) ⊎ (faces_fault H u root faces ≡ Some a)) (sym is)
+      (⊎_elim inl (λ e. inr (first-some (option_map fault_of (pair_refusal H u root faces)) _ (of_pair fault) e)) (pair-told fault (pair_refusal H u root faces) h))
+
+  module _ (paired : pair_refusal H u root faces ≡ None) (known : List ChildInfo) (met : known ≡ met_infos H u) where
+    unpaired : faces_fault H u root faces ≡ option_or (option_map (λ hash. Foreign hash) (first_of (foreign_at H known) (places H (half_of u 1) 0))) (option_map (λ hash. NewClash hash) (clash_of H (each_once same_face (flat_map (own_face_at H known) (places H (half_of u 1) 0)))))
+    unpaired =
+        ap (λ o. option_or (option_map fault_of o) (option_or (option_map (λ hash. Foreign hash) (first_of (foreign_at H (met_infos H u)) (places H (half_of u 1) 0))) (option_map (λ hash. NewClash hash) (clash_of H (own_faces H u))))) paired
+        ∙ ap (λ ks. option_or (option_map (λ hash. Foreign hash) (first_of (foreign_at H ks) (places H (half_of u 1) 0))) (option_map (λ hash. NewClash hash) (clash_of H (each_once same_face (flat_map (own_face_at H ks) (places H (half_of u 1) 0)))))) (sym met)
+
+    pub told-graft : (fault : GraftFault) (answer : PrepareFault) → answer ≡ of_graft fault → (fault ≡ graft.Memory) ⊎ (foreign_hash fault ≡ first_of (foreign_at H known) (places H (half_of u 1) 0)) → (answer ≡ Memory) ⊎ (faces_fault H u root faces ≡ Some answer)
+    told-graft fault answer is h = subst (λ a. (a ≡ Memory) ⊎ (faces_fault H u root faces ≡ Some a)) (sym is) (go fault h)
+      where
+        go : (fault : GraftFault) → (fault ≡ graft.Memory) ⊎ (foreign_hash fault ≡ first_of (foreign_at H known) (places H (half_of u 1) 0)) → (of_graft fault ≡ Memory) ⊎ (faces_fault H u root faces ≡ Some (of_graft fault))
+        go (graft.Foreign hash) h =
+            ⊎_elim
+            (λ e. absurd (cc e))
+            (λ e. inr (unpaired ∙ first-some (option_map (λ hash. Foreign hash) (first_of (foreign_at H known) (places H (half_of u 1) 0))) _ (Foreign hash) (ap (option_map (λ hash. Foreign hash)) (sym e))))
+            h
+        go graft.Memory h = inl refl
+
+    module _ (none : first_of (foreign_at H known) (places H (half_of u 1) 0) ≡ None) (own : List FaceView) (are : own ≡ each_once same_face (flat_map (own_face_at H known) (places H (half_of u 1) 0))) where
+      clash-is : faces_fault H u root faces ≡ option_map (λ hash. NewClash hash) (clash_of H own)
+      clash-is =
+          unpaired
+          ∙ ap (λ o. option_or (option_map (λ hash. Foreign hash) o) (option_map (λ hash. NewClash hash) (clash_of H (each_once same_face (flat_map (own_face_at H known) (places H (half_of u 1) 0)))))) none
+          ∙ ap (λ fs. option_map (λ hash. NewClash hash) (clash_of H fs)) (sym are)
+
+      pub told-none : clash_of H own ≡ None → faces_fault H u root faces ≡ None
+      told-none e = clash-is ∙ ap (option_map (λ hash. NewClash hash)) e
+
+      pub told-clash : (fault : PrepareFault) → (fault ≡ Memory) ⊎ ((hash : Hash256) × (clash_of H own ≡ Some hash) × (fault ≡ NewClash hash)) → (fault ≡ Memory) ⊎ (faces_fault H u root faces ≡ Some fault)
+      told-clash fault h = ⊎_elim inl (λ c. inr (clash-is ∙ ap (option_map (λ hash. NewClash hash)) c.1 ∙ ap Some (sym c.2))) h
 
 -- ---- the listed cells are the new ones
 

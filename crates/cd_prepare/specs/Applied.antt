@@ -1,17 +1,21 @@
 -- Updates applied to an old tree, and what preparing one answers.
 use Rattle.std.specs.Prelude.{◌≡◌, ℕ, List, ◌∷◌, map, Option, Some, Ok}
 use Rattle.std.specs.Option.{option_or, option_map}
+use Rattle.std.specs.List.{flat_map}
 use Rattle.cd_base.specs.declared.hash.Hash256.{Hash256}
 use Rattle.cd_cell.specs.declared.info.ChildInfo.{ChildInfo}
 use Rattle.cd_cell.specs.declared.new_cell.NewCell.{NewCell}
 use Rattle.cd_cell.specs.FaceView.{FaceView}
 use Rattle.cd_cell.specs.Tree.{Tree, info_of, face_of}
-use Rattle.cd_cell.specs.Equality.{same_face}
+use Rattle.cd_cell.specs.Equality.{same_face, same_info}
 use Rattle.cd_cell.specs.Export.{export_cmp, sorted_distinct, AreClashFree}
 use Rattle.cd_cell.specs.Listings.{new_cell_of, Fits, tree_of}
-use Rattle.cd_cell.specs.Updates.{UpdateRefusal, old_hash, old_depth, old_half, foreign, refusal_of, applied, new_cells}
+use Rattle.cd_cell.specs.Updates.{UpdateRefusal, old_hash, old_depth, old_half, foreign, half_of, refusal_of, applied, new_cells}
 use Rattle.cd_boc_read.specs.CellFaults.{clash_of}
-use Rattle.cd_update.specs.EachOnce.{each_once}
+use Rattle.cd_update.specs.EachOnce.{each_once, first_of}
+use Rattle.cd_update.specs.Places.{places}
+use Rattle.cd_update.specs.Pairing.{known_at, pair_refusal}
+use Rattle.cd_update.specs.Grafts.{own_face_at, foreign_at}
 use Rattle.cd_prepare.specs.declared.prepare_fault.PrepareFault.{PrepareFault}
 use Rattle.cd_prepare.specs.declared.prepare_fault.PrepareFault.TheVariants.{OldHash, OldDepth, OldHalf, Foreign, NewClash}
 
@@ -20,6 +24,26 @@ fault_of (old_hash stated real) = OldHash stated real
 fault_of (old_depth stated real) = OldDepth stated real
 fault_of (old_half misfit) = OldHalf misfit.hash misfit.stored misfit.shown
 fault_of (foreign hash) = Foreign hash
+
+-- ---- by the faces that stand beside the wanted hashes
+
+module _ (H : List ℕ → Hash256) (u : Tree) where
+  -- what the old half meets, by what its places show
+  abbrev pub met_infos : List ChildInfo
+  met_infos = each_once same_info (flat_map (known_at H) (places H (half_of u 0) 0))
+
+  -- the faces of the new half's own cells over it
+  abbrev pub own_faces : List FaceView
+  own_faces = each_once same_face (flat_map (own_face_at H met_infos) (places H (half_of u 1) 0))
+
+  -- why an update isn't prepared: the first refusal, or else the least hash that two different own cells share
+  abbrev pub faces_fault : ChildInfo → List (Option FaceView) → Option PrepareFault
+  faces_fault root faces =
+      option_or (option_map fault_of (pair_refusal H u root faces))
+      (option_or (option_map (λ hash. Foreign hash) (first_of (foreign_at H met_infos) (places H (half_of u 1) 0)))
+      (option_map (λ hash. NewClash hash) (clash_of H own_faces)))
+
+-- ---- over an old tree
 
 module _ (H : List ℕ → Hash256) (u t : Tree) where
   -- the faces of the new cells, each once

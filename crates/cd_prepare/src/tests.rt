@@ -1,8 +1,9 @@
-use crate::{PrepareFault, prepare_zero};
+use crate::{PrepareFault, prepare_update, prepare_zero};
 use cd_base::Hash256;
 use cd_boc_read::read_bag;
-use cd_cell::{Bag, Mask, WeakSum};
-use std::alloc::Global;
+use cd_cell::{Bag, Bits, ChildInfo, Face, Mask, Prepared, WeakSum};
+use cd_update::Update;
+use std::alloc::{AllocError, Global};
 use std::test::Fail;
 
 // The bag of these bytes behind the magic number.
@@ -86,7 +87,28 @@ fn a_pruned_branch_is_no_state(rt: HostRuntime) -> Result<(), Fail> {
 fn each_fault_has_a_text(rt: HostRuntime) -> Result<(), Fail> {
     let alloc = rt.alloc();
     let mask = Mask::of(5).ok_or("a mask")?;
+    let hash = weak(1);
+    let (stated, real) = (hash, hash);
+    let face = Face::new(false, Bits::from_slice(&[], 0).ok_or("bits")?, &[]);
     let texts = [
+        (PrepareFault::OldHash { stated, real }, "another old hash"),
+        (
+            PrepareFault::OldDepth { stated: 1, real: 2 },
+            "an old depth of 1 in place of 2",
+        ),
+        (
+            PrepareFault::OldHalf {
+                hash,
+                stored: face,
+                shown: face,
+            },
+            "the old half shows another cell",
+        ),
+        (
+            PrepareFault::Foreign { hash },
+            "the new half hides an unknown cell",
+        ),
+        (PrepareFault::NewClash { hash }, "two new cells of one hash"),
         (PrepareFault::Roots { roots: 2 }, "2 roots"),
         (PrepareFault::Level { mask }, "a root of level 3"),
         (PrepareFault::Memory, "out of memory"),
@@ -94,5 +116,136 @@ fn each_fault_has_a_text(rt: HostRuntime) -> Result<(), Fail> {
     for (fault, text) in texts {
         assert_eq!(rt; fault.to_string(alloc)?.as_str(), text);
     }
+    Ok(())
+}
+
+// What an old root of this weak hash and depth 0 shows.
+fn root(last: u8) -> ChildInfo {
+    ChildInfo {
+        mask: Mask::NONE,
+        hashes: [weak(last); 4],
+        depths: [0; 4],
+    }
+}
+
+// The text of an update of the old hash 3 and of this new hash and depth, whose halves are these entries.
+fn update(hash: u8, depth: u8, old: u8, new: u8) -> [u8; 73] {
+    let mut text = [0; 73];
+    text[0] = 10;
+    text[1] = 138;
+    text[2] = 4;
+    text[34] = 3;
+    text[66] = hash;
+    text[70] = depth;
+    text[71] = old;
+    text[72] = new;
+    text
+}
+
+// The text of a pruned branch of a cell of this weak hash and depth 0.
+fn pruned(hash: u8) -> [u8; 38] {
+    let mut text = [0; 38];
+    text[0] = 40;
+    text[1] = 72;
+    text[2] = 1;
+    text[3] = 1;
+    text[35] = hash;
+    text
+}
+
+// A bag of so many cells: an update and others with these texts.
+fn update_bag(
+    alloc: Global,
+    update: &[u8],
+    count: u8,
+    texts: &[&[u8]],
+) -> Result<Vec<u8>, AllocError> {
+    let mut cells = update.to_vec(alloc)?;
+    for text in texts {
+        cells.extend_from_slice(text)?;
+    }
+    let mut bytes = [1, 1, count, 1, 0, 0, 0].to_vec(alloc)?;
+    bytes[5] = u8::try_from(cells.len()).unwrap_or(0);
+    bytes.extend_from_slice(&cells)?;
+    Ok(bytes)
+}
+
+// The value or the fault of an update, over a root of this weak hash and these faces.
+fn prepared(
+    alloc: Global,
+    bytes: &[u8],
+    hash: u8,
+    faces: &[Option<Face>],
+) -> Result<Result<Prepared<WeakSum>, PrepareFault>, Fail> {
+    let bag = bag(alloc, bytes)?;
+    let Ok(update) = Update::of(&bag) else {
+        return Err(Fail::from("an update"));
+    };
+    Ok(prepare_update(alloc, &update, &root(hash), faces))
+}
+
+#[test]
+fn an_update_that_changes_nothing_has_no_new_cell(rt: HostRuntime) -> Result<(), Fail> {
+    let alloc = rt.alloc();
+    let bytes = update_bag(alloc, &update(3, 0, 1, 1), 2, &[&pruned(3)])?;
+    let value = prepared(alloc, &bytes, 3, &[])??;
+    assert_eq!(rt; value.old, Some(weak(3)));
+    assert_eq!(rt; value.root, root(3));
+    assert_eq!(rt; value.cells.as_slice().len(), 0);
+    let due = Some(PrepareFault::OldHash {
+        stated: weak(3),
+        real: weak(7),
+    });
+    assert!(rt; prepared(alloc, &bytes, 7, &[])?.err() == due);
+    Ok(())
+}
+
+#[test]
+fn a_new_half_of_one_cell_is_listed(rt: HostRuntime) -> Result<(), Fail> {
+    let alloc = rt.alloc();
+    let update = update(18, 0, 1, 2);
+    let bytes = update_bag(alloc, &update, 3, &[&pruned(3), &[0, 2, 16]])?;
+    let value = prepared(alloc, &bytes, 3, &[])??;
+    assert_eq!(rt; value.root.rep(), weak(18));
+    let [cell] = value.cells.as_slice() else {
+        return Err(Fail::from("one cell"));
+    };
+    assert_eq!(rt; cell.hash, weak(18));
+    Ok(())
+}
+
+#[test]
+fn an_equal_hash_over_another_face_is_told(rt: HostRuntime) -> Result<(), Fail> {
+    let alloc = rt.alloc();
+    // The old half is the cell of the byte 01; the old tree is the cell of six bits, of the same sum.
+    let bytes = update_bag(alloc, &update(3, 0, 1, 1), 2, &[&[0, 2, 1]])?;
+    let shown = Face::new(false, Bits::from_slice(&[1], 8).ok_or("bits")?, &[]);
+    let stored = Face::new(false, Bits::from_slice(&[0], 6).ok_or("bits")?, &[]);
+    let due = Some(PrepareFault::OldHalf {
+        hash: weak(3),
+        stored,
+        shown,
+    });
+    assert!(rt; prepared(alloc, &bytes, 3, &[Some(stored)])?.err() == due);
+    Ok(())
+}
+
+#[test]
+fn a_hidden_cell_that_was_not_met_is_told(rt: HostRuntime) -> Result<(), Fail> {
+    let alloc = rt.alloc();
+    let bytes = update_bag(alloc, &update(5, 0, 1, 2), 3, &[&pruned(3), &pruned(5)])?;
+    let due = Some(PrepareFault::Foreign { hash: weak(5) });
+    assert!(rt; prepared(alloc, &bytes, 3, &[])?.err() == due);
+    Ok(())
+}
+
+#[test]
+fn two_new_cells_of_one_hash_are_told(rt: HostRuntime) -> Result<(), Fail> {
+    let alloc = rt.alloc();
+    // The new root has a cell over the hidden one, whose hash becomes 4, and the cell of the byte 02.
+    let texts: [&[u8]; 4] = [&[34, 0, 2, 3], &[33, 0, 4], &[0, 2, 2], &pruned(3)];
+    let bytes = update_bag(alloc, &update(11, 2, 4, 1), 5, &texts)?;
+    let due = Some(PrepareFault::NewClash { hash: weak(4) });
+    assert!(rt; prepared(alloc, &bytes, 3, &[])?.err() == due);
     Ok(())
 }

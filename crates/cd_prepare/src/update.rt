@@ -10,7 +10,7 @@ ghost use Rattle.cd_boc_read.specs.CellFaults.{clash_of};
 ghost use Rattle.cd_update.specs.Pairing.{AreOf};
 ghost use Rattle.cd_prepare.specs.NewCells.{AreKeys, AreListed};
 ghost use Rattle.cd_prepare.specs.States.{Answers};
-ghost use Rattle.cd_prepare.specs.Applied.{update_fault, IsApplied};
+ghost use Rattle.cd_prepare.specs.Applied.{faces_fault, update_fault, IsApplied};
 
 use crate::PrepareFault;
 use crate::key::Key;
@@ -85,6 +85,7 @@ pub fn prepare_update<H: Hash32>(
 ) -> Result<Prepared<H>, PrepareFault>
     ensures old { IfOk result (λ value. value.old ≡ Some (stated_hash (face_of H.digest_of (bag_cell update.now.bag.now.cells update.now.bag.now.refs update.now.root)) 1)) }
     ensures rep { IfOk result (λ value. rep_of_info value.root ≡ stated_hash (face_of H.digest_of (bag_cell update.now.bag.now.cells update.now.bag.now.refs update.now.root)) 33) }
+    ensures told { Answers (faces_fault H.digest_of (bag_cell update.now.bag.now.cells update.now.bag.now.refs update.now.root) root.now faces.now) result }
     // Over an old tree the answer is that of the tree.
     ensures exact { (t : Tree) → AreOf H.digest_of t (bag_cell update.now.bag.now.cells update.now.bag.now.refs update.now.root) root.now faces.now
         → Answers (update_fault H.digest_of (bag_cell update.now.bag.now.cells update.now.bag.now.refs update.now.root) t) result }

@@ -12,7 +12,7 @@ use Rattle.cd_update.proofs.HalfVisits.{well-update, kind-update, mask-update}
 use Rattle.cd_update.specs.Grafts.{grafted_info}
 use Rattle.cd_prepare.proofs.NewLists.{IsValid-faces, Fits-faces, known-listed}
 use Rattle.cd_prepare.proofs.OwnFaces.{clear-faces, good-faces, steady-kids, parents, root-is, kids-shown, root-shown}
-use Rattle.cd_prepare.proofs.UpdateLaws.{answer-pair, answer-graft, answer-none, answer-clash, applied-is, known-old, listed-new_cells}
+use Rattle.cd_prepare.proofs.UpdateLaws.{told-pair, told-graft, told-none, told-clash, answer-pair, answer-graft, answer-none, answer-clash, applied-is, known-old, listed-new_cells}
 use Rattle.cd_prepare.proofs.update.prepare_update.Goals as goal
 
 pub returns-in-Err-clause-exact : goal.returns-in-Err-clause-exact
@@ -132,3 +132,35 @@ returns-in-Ok-new_cells-clause-applied g c t are =
           ap₂ (λ r cs. tree_of H r cs (Some t)) root_is cells_are
           ∙ tree_of-new_cells H u t well are.well kind plain tree applies free;
     }
+
+pub returns-in-Err-clause-told : goal.returns-in-Err-clause-told
+returns-in-Err-clause-told g c =
+    let H = g.H.Hash32.digest_of in
+    let update = c.args.update.now in
+    let bag = update.bag.now in
+    let u = bag_cell bag.cells bag.refs update.root in
+    told-pair H u c.args.root.now c.args.faces.now c.in-Err.fault c.from.result c.from.ensures c.in-Err.ensures.refused
+
+pub returns-in-Err-graft-clause-told : goal.returns-in-Err-graft-clause-told
+returns-in-Err-graft-clause-told g c =
+    let H = g.H.Hash32.digest_of in
+    let update = c.args.update.now in
+    let bag = update.bag.now in
+    let u = bag_cell bag.cells bag.refs update.root in
+    told-graft H u c.args.root.now c.args.faces.now c.in-Ok.ensures.refused c.in-Ok.known.infos c.in-Ok.ensures.infos c.in-Err-graft.fault c.from-in-Err-graft.result c.from-in-Err-graft.ensures c.in-Err-graft.ensures.refused
+
+pub returns-in-Ok-new_cells-clause-told : goal.returns-in-Ok-new_cells-clause-told
+returns-in-Ok-new_cells-clause-told g c =
+    let H = g.H.Hash32.digest_of in
+    let update = c.args.update.now in
+    let bag = update.bag.now in
+    let u = bag_cell bag.cells bag.refs update.root in
+    told-none H u c.args.root.now c.args.faces.now c.in-Ok.ensures.refused c.in-Ok.known.infos c.in-Ok.ensures.infos c.in-Ok-graft.ensures.refused c.as_slice.result.now (c.as_slice.ensures ∙ c.in-Ok-graft.ensures.cells) c.in-Ok-new_cells.ensures.exact
+
+pub returns-clause-told : goal.returns-clause-told
+returns-clause-told g c =
+    let H = g.H.Hash32.digest_of in
+    let update = c.args.update.now in
+    let bag = update.bag.now in
+    let u = bag_cell bag.cells bag.refs update.root in
+    told-clash H u c.args.root.now c.args.faces.now c.in-Ok.ensures.refused c.in-Ok.known.infos c.in-Ok.ensures.infos c.in-Ok-graft.ensures.refused c.as_slice.result.now (c.as_slice.ensures ∙ c.in-Ok-graft.ensures.cells) c.in-Err-new_cells.fault c.in-Err-new_cells.ensures.exact
