@@ -10,6 +10,7 @@ use cd_cell::{Bag, Hash32, Kind, kind_of, plain_mask};
 
 /// A Merkle update (TVM documentation, "Exotic cells"): the one root of a bag. Its first child is the old
 /// half, which shows a part of an old tree; its second child is the new half.
+#[derive(Drop)]
 pub struct Update<'a, H: Hash32> {
     /// The bag.
     pub bag: &'a Bag<H>,
