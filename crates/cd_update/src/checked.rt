@@ -11,14 +11,14 @@ use std::alloc::Global;
 
 /// A cell of a test: its bytes, and the numbers of its children.
 #[derive(Clone, Copy)]
-pub struct Cell<'a> {
+pub(crate) struct Cell<'a> {
     pub exotic: bool,
     pub bytes: &'a [u8],
     pub refs: &'a [u32],
 }
 
 /// The bag of these cells with these roots; `None` where they make none.
-pub fn bag_of<H: Hash32>(alloc: Global, cells: &[Cell], roots: &[u32]) -> Option<Bag<H>> {
+pub(crate) fn bag_of<H: Hash32>(alloc: Global, cells: &[Cell], roots: &[u32]) -> Option<Bag<H>> {
     let none = ChildInfo {
         mask: Mask::NONE,
         hashes: [Hash256([0; 32]); 4],
@@ -249,7 +249,7 @@ fn are_rooted(roots: &[u32], count: usize) -> bool
 }
 
 /// The face of an entry.
-pub fn face_in<H: Hash32>(bag: &Bag<H>, number: u32) -> Result<Face, &'static str> {
+pub(crate) fn face_in<H: Hash32>(bag: &Bag<H>, number: u32) -> Result<Face, &'static str> {
     if number as usize >= bag.cells.as_slice().len() {
         return Err("no such entry");
     }
@@ -257,7 +257,7 @@ pub fn face_in<H: Hash32>(bag: &Bag<H>, number: u32) -> Result<Face, &'static st
 }
 
 /// What the first entry shows.
-pub fn info_in<H: Hash32>(bag: &Bag<H>) -> Result<ChildInfo, &'static str> {
+pub(crate) fn info_in<H: Hash32>(bag: &Bag<H>) -> Result<ChildInfo, &'static str> {
     if bag.cells.as_slice().is_empty() {
         return Err("no entry");
     }
