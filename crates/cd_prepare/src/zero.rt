@@ -35,6 +35,7 @@ pub fn all_cells<H: Hash32>(
 pub fn prepare_zero<H: Hash32>(alloc: Global, bag: &Bag<H>) -> Result<Prepared<H>, PrepareFault>
     ensures exact { Answers (state_fault H.digest_of (bag_trees bag.now.cells bag.now.refs bag.now.roots)) result }
     ensures old { IfOk result (λ value. value.old ≡ None) }
+    ensures few { IfOk result (λ value. length value.cells ≤ length bag.now.cells) }
     ensures whole { IfOk result (λ value. (state : Tree) → bag_trees bag.now.cells bag.now.refs bag.now.roots ≡ state ∷ [] → IsWhole H.digest_of state value.root value.cells) }
 {
     let [root] = bag.roots.as_slice() else {

@@ -1,6 +1,4 @@
-pub mod Hashes
-pub mod OwnerLaws
-pub mod HeldLaws
-pub mod Lift
-pub mod OnceLaws
+pub mod OrderLaws
+pub mod CountLaws
 pub mod StateLaws
+pub mod OnceLaws

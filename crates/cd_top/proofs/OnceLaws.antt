@@ -11,7 +11,6 @@ use Rattle.cd_world.proofs.Puts.{changed-change_of}
 use Rattle.cd_top.specs.declared.status.Status.{Status}
 use Rattle.cd_top.specs.declared.status.Status.TheVariants as status
 use Rattle.cd_top.specs.declared.status.InputFault.TheVariants as input
-use Rattle.cd_top.specs.declared.status.TopRefusal.TheVariants as refusal
 use Rattle.cd_top.specs.Zero.{zero_id, zero_world, zero_text}
 use Rattle.cd_top.specs.ZeroCall.{Seen, IsUntouched, IsInput, IsStateBag, IsRefusal, Ends, IsStoring}
 

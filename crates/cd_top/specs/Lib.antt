@@ -1,6 +1,4 @@
-pub mod Graph
-pub mod Owners
-pub mod Held
+pub mod Order
 pub mod StatusText
 pub mod Zero
 pub mod ZeroCall

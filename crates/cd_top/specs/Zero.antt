@@ -7,7 +7,12 @@ use Rattle.cd_block.specs.declared.block.BlockId.{BlockId}
 use Rattle.cd_block.specs.declared.description.Descr.{Descr}
 use Rattle.cd_block.specs.Spelling.{id_text}
 use Rattle.cd_cell.specs.Tree.{Tree, rep_of}
+use Rattle.cd_prepare.specs.declared.prepare_fault.PrepareFault.{PrepareFault}
+use Rattle.cd_prepare.specs.declared.prepare_fault.PrepareFault.TheVariants as prepare
 use Rattle.cd_world.specs.World.{World, held_cells}
+use Rattle.cd_top.specs.declared.status.Status.{Status}
+use Rattle.cd_top.specs.declared.status.Status.TheVariants as status
+use Rattle.cd_top.specs.declared.status.TopRefusal.TheVariants as refusal
 
 -- the masterchain's block of seqno 0 with this root hash and a file hash of zeros
 abbrev pub zero_id : Hash256 → BlockId
@@ -36,3 +41,16 @@ module _ (H : List ℕ → Hash256) where
 
   abbrev pub zero_text : Tree → List ℕ
   zero_text state = printed_of (zero_id (rep_of H state)) (finite.len (held_cells H (zero_world state)))
+
+-- the faults of preparing that a state can have
+abbrev pub IsOfState : PrepareFault → Type 0
+IsOfState (prepare.Roots roots) = Unit {0}
+IsOfState (prepare.Level mask) = Unit {0}
+IsOfState prepare.Memory = Unit {0}
+IsOfState _ = ⊥
+
+-- and the status of each
+abbrev pub status_of : PrepareFault → Status
+status_of (prepare.Roots roots) = status.Refused (refusal.Roots roots)
+status_of (prepare.Level mask) = status.Refused (refusal.Level mask)
+status_of _ = status.Memory

@@ -1,10 +1,9 @@
 //! The calls that the program makes: from words and bytes to a stored block and printed lines.
 #![tactic(auto)]
 
-mod collect;
-mod count;
-mod held;
+mod counts;
 mod once;
+mod order;
 mod records;
 mod status;
 mod zero;

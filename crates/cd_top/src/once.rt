@@ -1,16 +1,20 @@
-ghost use Rattle.std.specs.Prelude.{◌≡◌, ◌↔◌, IfOk, IfErr, IfSome, IsTrue, map, string_bytes};
+ghost use Rattle.std.specs.Prelude.{◌≡◌, ◌↔◌, ◌≤◌, length, IfOk, IfErr, IfSome, IsTrue, map, string_bytes};
 ghost use Rattle.cd_cell.specs.Tree.{Tree};
+ghost use Rattle.cd_cell.specs.Export.{IsClashFree};
+ghost use Rattle.cd_prepare.specs.States.{IsWhole};
 ghost use Rattle.cd_keeper.specs.Contents.{no_contents};
 ghost use Rattle.cd_world.specs.Image.{change_of};
 ghost use Rattle.cd_top.specs.Zero.{zero_world, zero_text};
+ghost use Rattle.cd_top.specs.Zero.{IsOfState, status_of};
 ghost use Rattle.cd_top.specs.ZeroCall.{IsZeroLine, IsStateBag, IsRefusal, IsStoring, Ends};
 
 use crate::status::{InputFault, Status, TopRefusal, WordFault};
 use crate::zero::{Plan, plan_zero};
 use cd_base::{ReadAllFault, Sink, Source, read_all, write_all};
 use cd_boc_read::{BagFault, read_bag};
-use cd_cell::Hash32;
+use cd_cell::{Hash32, Prepared};
 use cd_keeper::{KeepFault, Keeper};
+use cd_prepare::{PrepareFault, prepare_zero};
 use std::alloc::Global;
 use std::marker::PhantomData;
 
@@ -50,11 +54,25 @@ fn is_zero_line(words: &[String]) -> bool
     }
 }
 
-/// What is to be stored and printed for these bytes, or the status of a call over bytes that are no bag of a state.
-/// The bag is given up here, before anything is stored.
-fn plan_of<H: Hash32>(alloc: Global, bytes: &[u8]) -> Result<Plan, Status>
-    ensures found { IfOk result (λ plan. (state : Tree) × IsStateBag H.digest_of bytes.now state
-        × (plan.batch ≡ change_of H.digest_of (zero_world H.digest_of state)) × (string_bytes plan.text ≡ zero_text H.digest_of state)) }
+/// The status of a call over a bag that is no state's.
+fn refusal_of(fault: &PrepareFault) -> Status
+    requires { IsOfState fault.now }
+    ensures { result ≡ status_of fault.now }
+{
+    match fault {
+        PrepareFault::Roots { roots } => Status::Refused(TopRefusal::Roots { roots: *roots }),
+        PrepareFault::Level { mask } => Status::Refused(TopRefusal::Level { mask: *mask }),
+        PrepareFault::Memory => Status::Memory,
+        _ => unreachable!(),
+    }
+}
+
+/// The value of the state that these bytes are a bag of, or the status of a call over bytes that are no such bag. The
+/// bag is given up here.
+fn prepared_of<H: Hash32>(alloc: Global, bytes: &[u8]) -> Result<Prepared<H>, Status>
+    ensures found { IfOk result (λ value. (state : Tree) × IsStateBag H.digest_of bytes.now state × IsClashFree H.digest_of state
+        × IsWhole H.digest_of state value.root value.cells) }
+    ensures few { IfOk result (λ value. length value.cells ≤ 1048576) }
     ensures refused { IfErr result (IsRefusal H.digest_of bytes.now) }
 {
     let bag = match read_bag::<H>(alloc, bytes) {
@@ -62,17 +80,23 @@ fn plan_of<H: Hash32>(alloc: Global, bytes: &[u8]) -> Result<Plan, Status>
         Err(BagFault::Memory) => return Err(Status::Memory),
         Err(fault) => return Err(Status::BadInput(InputFault::Bag(fault))),
     };
-    let roots = bag.roots.as_slice();
-    if roots.len() != 1 {
-        let roots = roots.len() as u32;
-        return Err(Status::Refused(TopRefusal::Roots { roots }));
+    match prepare_zero(alloc, &bag) {
+        Ok(value) => Ok(value),
+        Err(fault) => Err(refusal_of(&fault)),
     }
-    let root = roots[0];
-    let mask = bag.face(root).mask();
-    if mask.byte() != 0 {
-        return Err(Status::Refused(TopRefusal::Level { mask }));
-    }
-    match plan_zero::<H>(alloc, &bag, root) {
+}
+
+/// What is to be stored and printed for these bytes, or the status of a call over bytes that are no bag of a state.
+fn plan_of<H: Hash32>(alloc: Global, bytes: &[u8]) -> Result<Plan, Status>
+    ensures found { IfOk result (λ plan. (state : Tree) × IsStateBag H.digest_of bytes.now state
+        × (plan.batch ≡ change_of H.digest_of (zero_world H.digest_of state)) × (string_bytes plan.text ≡ zero_text H.digest_of state)) }
+    ensures refused { IfErr result (IsRefusal H.digest_of bytes.now) }
+{
+    let value = match prepared_of::<H>(alloc, bytes) {
+        Ok(value) => value,
+        Err(status) => return Err(status),
+    };
+    match plan_zero(alloc, &value) {
         Ok(plan) => Ok(plan),
         Err(_) => Err(Status::Memory),
     }

@@ -1,23 +1,24 @@
-ghost use Rattle.std.specs.Prelude.{◌≡◌, ◌∷◌, [], false, ◌≤◌, ◌<◌, length, IfOk};
+ghost use Rattle.std.specs.Prelude.{◌≡◌, ◌∷◌, [], false, ◌≤◌, length, IfOk};
 ghost use Rattle.cd_block.specs.Block.{key_of};
 ghost use Rattle.cd_block.specs.Description.{descr_text};
-ghost use Rattle.cd_cell.specs.Unfolding.{unfolding_of};
-ghost use Rattle.cd_cell.specs.Bags.{entries_of, IsBag};
+ghost use Rattle.cd_cell.specs.Tree.{Tree};
+ghost use Rattle.cd_cell.specs.Export.{IsClashFree};
 ghost use Rattle.std.specs.Prelude.{string_bytes};
 ghost use Rattle.std.specs.List.{IsDistinct};
 ghost use Rattle.std.specs.Map.{keys_of};
 ghost use Rattle.cd_keeper.specs.Shown as cells_put;
 ghost use Rattle.cd_keeper.specs.Shown.{hash_bytes};
 ghost use Rattle.cd_keeper.specs.NoKeyTwice.{same_key};
+ghost use Rattle.cd_prepare.specs.States.{IsWhole};
 ghost use Rattle.cd_world.specs.Image.{change_of};
 ghost use Rattle.cd_top.specs.Zero.{zero_id, zero_descr, zero_world, zero_text, printed_of};
 
-use crate::count::count;
-use crate::held::hold;
-use crate::records::put_records;
+use crate::counts::count_references;
+use crate::order::by_hash;
+use crate::records::records_of;
 use cd_base::{Hash256, Memory};
 use cd_block::{BlockId, BlockIds, Descr, ShardId, encode_descr, print_id};
-use cd_cell::{Bag, Face, Hash32, face_info};
+use cd_cell::{Hash32, Prepared};
 use cd_keeper::Batch;
 use std::alloc::Global;
 
@@ -89,35 +90,20 @@ fn batch_of(
     Ok(batch)
 }
 
-/// What storing the tree of an entry as a zero state takes.
-fn plan_cells<H: Hash32>(
-    alloc: Global,
-    cells: &[Face],
-    refs: &[[u32; 4]],
-    root: u32,
-) -> Result<Plan, Memory>
-    requires bag { IsBag H.digest_of cells.now refs.now [] }
-    requires root { root < length cells.now }
-    requires few { length cells.now ≤ 1048576 }
-    ensures batch { IfOk result (λ plan. plan.batch ≡ change_of H.digest_of (zero_world H.digest_of (unfolding_of (entries_of cells.now refs.now) root))) }
-    ensures text { IfOk result (λ plan. string_bytes plan.text ≡ zero_text H.digest_of (unfolding_of (entries_of cells.now refs.now) root)) }
+/// What storing a value as a zero state takes. Where it lists all cells of a state, this is the batch that makes the
+/// image of the world with that one block.
+pub fn plan_zero<H: Hash32>(alloc: Global, value: &Prepared<H>) -> Result<Plan, Memory>
+    requires few { length value.now.cells ≤ 1048576 }
+    ensures batch { IfOk result (λ plan. (state : Tree) → IsClashFree H.digest_of state → IsWhole H.digest_of state value.now.root value.now.cells
+        → plan.batch ≡ change_of H.digest_of (zero_world H.digest_of state)) }
+    ensures text { IfOk result (λ plan. (state : Tree) → IsClashFree H.digest_of state → IsWhole H.digest_of state value.now.root value.now.cells
+        → string_bytes plan.text ≡ zero_text H.digest_of state) }
 {
-    let info = face_info::<H>(&cells[root as usize]);
-    let held = hold::<H>(alloc, cells, refs, root, info.rep())?;
-    let counts = count::<H>(alloc, cells, refs, root, &held)?;
-    let puts = put_records(alloc, cells, &held.kept, &counts)?;
-    let id = id_of(info.rep());
-    let text = printed(alloc, &id, held.kept.len())?;
-    let batch = batch_of(alloc, puts, id, info.height())?;
+    let order = by_hash(alloc, value)?;
+    let counts = count_references(alloc, value, &order)?;
+    let puts = records_of(alloc, value, &order, &counts)?;
+    let id = id_of(value.root.rep());
+    let text = printed(alloc, &id, order.len())?;
+    let batch = batch_of(alloc, puts, id, value.root.height())?;
     Ok(Plan { batch, text })
-}
-
-/// What storing the tree of a bag's entry as a zero state takes.
-pub fn plan_zero<H: Hash32>(alloc: Global, bag: &Bag<H>, root: u32) -> Result<Plan, Memory>
-    requires root { root < length bag.now.cells }
-    requires few { length bag.now.cells ≤ 1048576 }
-    ensures batch { IfOk result (λ plan. plan.batch ≡ change_of H.digest_of (zero_world H.digest_of (unfolding_of (entries_of bag.now.cells bag.now.refs) root))) }
-    ensures text { IfOk result (λ plan. string_bytes plan.text ≡ zero_text H.digest_of (unfolding_of (entries_of bag.now.cells bag.now.refs) root)) }
-{
-    plan_cells::<H>(alloc, bag.cells.as_slice(), bag.refs.as_slice(), root)
 }

@@ -1,6 +1,6 @@
 -- The input was read whole, and what is stored of it is the world with its state.
-use Rattle.std.proofs.Common.{refl, ap, sym, subst}
-use Rattle.cd_top.specs.ZeroCall.{IsStateBag, IsRefusal, Ends}
+use Rattle.std.proofs.Common.{refl, ap, subst}
+use Rattle.cd_top.specs.ZeroCall.{IsStateBag, IsRefusal}
 use Rattle.cd_top.proofs.OnceLaws.{ends-from_storing, ends-refused}
 use Rattle.cd_top.proofs.once.celldb_once.Goals as goal
 

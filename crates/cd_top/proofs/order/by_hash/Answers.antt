@@ -1,0 +1,18 @@
+use Rattle.std.proofs.Common.{◌∷◌, ◌++◌, [], ap, sym, subst, ◌∙◌}
+use Rattle.cd_top.specs.Order.{IsOrder}
+use Rattle.cd_top.proofs.OrderLaws.{HaveOwnHashes, placed_from-more, all-placed, sorted-order}
+use Rattle.cd_top.proofs.order.by_hash.Goals as goal
+
+pub loop-place-preserved : goal.loop-place-preserved
+loop-place-preserved g c =
+    c.in_ok-push.ensures.items
+    ∙ ap (λ xs. xs ++ (c.index-cells-place.result.hash, c.loop-place.place) ∷ []) c.loop-place.invariant
+    ∙ sym (placed_from-more c.as_slice-cells.result.now c.loop-place.place c.index-cells-place.result c.loop-place-test.true c.index-cells-place.is)
+
+pub returns : goal.returns
+returns g c =
+    let cells = c.as_slice-cells.result.now in
+    let items = c.sort_unstable.new.self.items in
+    let moved = all-placed cells items c.loop-place.order.items c.loop-place.place c.loop-place-test.false c.loop-place.invariant c.sort_unstable.ensures.permutation in
+    let own = subst HaveOwnHashes (sym c.as_slice-cells.ensures) c.args.value.now.valid.distinct in
+    subst (λ cs. IsOrder cs items) c.as_slice-cells.ensures (sorted-order cells items own moved c.sort_unstable.ensures.sorted)
