@@ -13,8 +13,22 @@ use cd_cell::{Bag, ChildInfo, Hash32, NewCell, Prepared};
 use std::alloc::{AllocError, Global};
 
 /// All cells that an entry of a bag leads to, its own first, each once, in the order of an export: by height, the
-/// greatest first, and then by hash, the least first. `info` is what the entry's cell shows. Nothing is hashed.
+/// greatest first, and then by hash, the least first. Nothing is hashed but the entry's cell.
 pub fn all_cells<H: Hash32>(
+    alloc: Global,
+    bag: &Bag<H>,
+    root: u32,
+) -> Result<Vec<NewCell>, AllocError>
+    requires there { root < length bag.now.cells }
+    ensures cells { IfOk result (λ cells. cells.items ≡ map (new_cell_of H.digest_of) (distinct_cells H.digest_of (bag_cell bag.now.cells bag.now.refs root))) }
+    ensures few { IfOk result (λ cells. length cells.items ≤ length bag.now.cells) }
+    ensures good { IfOk result (λ cells. All (λ c. IsGoodFace c.face) cells.items) }
+{
+    cells_below(alloc, bag, root, &bag.info(root))
+}
+
+/// The same, where `info` is what the entry's cell shows. Nothing is hashed.
+fn cells_below<H: Hash32>(
     alloc: Global,
     bag: &Bag<H>,
     root: u32,
@@ -35,6 +49,7 @@ pub fn all_cells<H: Hash32>(
 pub fn prepare_zero<H: Hash32>(alloc: Global, bag: &Bag<H>) -> Result<Prepared<H>, PrepareFault>
     ensures exact { Answers (state_fault H.digest_of (bag_trees bag.now.cells bag.now.refs bag.now.roots)) result }
     ensures old { IfOk result (λ value. value.old ≡ None) }
+    ensures few { IfOk result (λ value. length value.cells ≤ length bag.now.cells) }
     ensures whole { IfOk result (λ value. (state : Tree) → bag_trees bag.now.cells bag.now.refs bag.now.roots ≡ state ∷ [] → IsWhole H.digest_of state value.root value.cells) }
 {
     let [root] = bag.roots.as_slice() else {
@@ -45,7 +60,7 @@ pub fn prepare_zero<H: Hash32>(alloc: Global, bag: &Bag<H>) -> Result<Prepared<H
     if info.mask.byte() != 0 {
         return Err(PrepareFault::Level { mask: info.mask });
     }
-    let Ok(cells) = all_cells(alloc, bag, *root, &info) else {
+    let Ok(cells) = cells_below(alloc, bag, *root, &info) else {
         return Err(PrepareFault::Memory);
     };
     Ok(Prepared::new(None, info, cells))

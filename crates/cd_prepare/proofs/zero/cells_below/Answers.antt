@@ -6,7 +6,7 @@ use Rattle.cd_cell.specs.GoodFace.{IsGoodFace}
 use Rattle.cd_prepare.specs.declared.key.Key.{Key}
 use Rattle.cd_prepare.specs.Keys.{cell_of_key}
 use Rattle.cd_prepare.proofs.ListLaws.{all-there, listed_cells, few-listed, good-listed}
-use Rattle.cd_prepare.proofs.zero.all_cells.Goals as goal
+use Rattle.cd_prepare.proofs.zero.cells_below.Goals as goal
 
 pub cells_of-requires : goal.cells_of-requires
 cells_of-requires g c =
