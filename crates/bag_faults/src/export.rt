@@ -13,7 +13,7 @@ pub fn export<H: Hash32>(alloc: Global, bag: &Bag<H>, root: u32) -> Result<Vec<u
     requires few { length bag.now.cells ≤ 1048576 }
     ensures { IfOk result (λ text. text.items ≡ bag_of H.digest_of (bag_cell bag.now.cells bag.now.refs root)) }
 {
-    let cells = all_cells(alloc, bag, root, &bag.info(root))?;
+    let cells = all_cells(alloc, bag, root)?;
     match write_bag(alloc, &cells) {
         Ok(text) => Ok(text),
         Err(_) => Err(AllocError),

@@ -1,6 +1,6 @@
 -- The bag that read texts make, what its bytes spell, and that what is spelt has no fault.
 use Rattle.std.proofs.Common.{◌≡◌, ℕ, zero, suc, ◌+◌, ◌<◌, ◌≤◌, List, [], ◌∷◌, length, get_or, take, map, Contains, None, Result, Ok, Err, refl, sym, ap, ap₂, subst, ◌∙◌, arith}
-use Rattle.std.specs.Option.{option_map}
+use Rattle.std.specs.Option.{option_or, option_map}
 use Rattle.std.proofs.lemmas.List.{length-map, get_or_default}
 use Rattle.std.proofs.lemmas.List.Elements.{Contains-get_or}
 use Rattle.cd_base.specs.declared.hash.Hash256.{Hash256}
@@ -205,6 +205,13 @@ module _ (H : List ℕ → Hash256) where
     module _ (cells : List FaceView) (filled : cells ≡ read_faces) where
       pub count-cells : length cells ≡ length cell_texts
       count-cells = ap length filled ∙ count-faces
+
+      -- where no cell has a fault, the fault is their clash
+      pub clash-told : cells_fault H 0 read_texts read_faces ≡ None → bag_fault H bytes ≡ option_map Clash (clash_of H cells)
+      clash-told none =
+          ap (fault_in H) read
+          ∙ ap (λ o. option_or o (option_map Clash (clash_of H read_faces))) none
+          ∙ ap (λ fs. option_map Clash (clash_of H fs)) (sym filled)
 
       module _ (none : cells_fault H 0 read_texts read_faces ≡ None) (clear : clash_of H cells ≡ None) (refs : List (List ℕ)) (numbers : refs ≡ map (λ (t : CellText). t.refs) cell_texts) where
         clear-read : clash_of H read_faces ≡ None

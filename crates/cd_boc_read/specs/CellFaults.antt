@@ -40,6 +40,18 @@ abbrev pub least_hash : List Hash256 → Option Hash256
 least_hash [] = None
 least_hash (hash ∷ hashes) = Some (lesser hash (least_hash hashes))
 
+-- a face, behind the hash that is given for it
+abbrev pub HashedFace : Type 0
+HashedFace = Hash256 × FaceView
+
+-- two different faces under one hash
+abbrev pub is_clash : HashedFace → HashedFace → Bool
+is_clash a b = same_hash a.0 b.0 && not (same_face a.1 b.1)
+
+-- the least hash under which two different faces stand
+abbrev pub clash_among : List HashedFace → Option Hash256
+clash_among fs = least_hash (map (λ f. f.0) (filter (λ f. list_any (is_clash f) fs) fs))
+
 module _ (H : List ℕ → Hash256) where
   -- the first fault of the cell with this number, by its text and its face
   abbrev pub cell_fault : ℕ → Text → FaceView → Option BagFault
@@ -55,13 +67,13 @@ module _ (H : List ℕ → Hash256) where
   cells_fault number (t ∷ ts) [] = None
   cells_fault number (t ∷ ts) (f ∷ fs) = option_or (cells_fault (number + 1) ts fs) (cell_fault number t f)
 
-  -- two different cells of one hash
-  abbrev pub is_clash : FaceView → FaceView → Bool
-  is_clash f g = same_hash (rep_of_face H f) (rep_of_face H g) && not (same_face f g)
+  -- a face behind its cell's representation hash
+  abbrev pub with_rep : FaceView → HashedFace
+  with_rep f = (rep_of_face H f, f)
 
-  -- the least hash that two different cells have
+  -- the least representation hash that two different cells have
   abbrev pub clash_of : List FaceView → Option Hash256
-  clash_of fs = least_hash (map (rep_of_face H) (filter (λ f. list_any (is_clash f) fs) fs))
+  clash_of fs = clash_among (map with_rep fs)
 
   -- the first fault of all the cells
   abbrev pub fault_of_texts : List Text → Option BagFault

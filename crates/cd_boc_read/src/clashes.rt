@@ -1,25 +1,26 @@
 ghost use Rattle.std.specs.Prelude.{◌≡◌, ◌≢◌, ℕ, ◌<◌, ◌^◌, ◌+◌, false, IsTrue, length, map, All, IfSome, IfNone, IfOk, IsSorted};
+ghost use Rattle.std.specs.List.{zip};
 ghost use Rattle.std.specs.Ordering.{nat_cmp, ordering_then};
 ghost use Rattle.cd_cell.specs.Infos.{rep_of_info};
-ghost use Rattle.cd_cell.specs.Levels.{info_of_face};
 ghost use Rattle.cd_cell.specs.Export.{hash_cmp};
 ghost use Rattle.cd_cell.specs.Bags.{face_at};
-ghost use Rattle.cd_boc_read.specs.CellFaults.{clash_of};
+ghost use Rattle.cd_boc_read.specs.CellFaults.{clash_among};
 ghost use Rattle.cd_boc_read.specs.Clashes.{AllAgree, IsFirstClash, keys_from, Agree};
 
 use cd_base::{Hash256, Memory};
-use cd_cell::{ChildInfo, Face, Hash32};
+use cd_cell::{ChildInfo, Face};
 use std::alloc::Global;
 
-/// The least representation hash that two different faces have. It sorts the hashes, each with its cell's number.
-pub fn clash_of<H: Hash32>(
+/// The least representation hash that `infos` give for two different faces. It sorts the hashes, each with its cell's
+/// number.
+pub fn least_clash(
     alloc: Global,
     faces: &[Face],
     infos: &[ChildInfo],
 ) -> Result<Option<Hash256>, Memory>
+    requires counted { length infos.now ≡ length faces.now }
     requires few { length faces.now < 2 ^ 32 }
-    requires shown { infos.now ≡ map (info_of_face H.digest_of) faces.now }
-    ensures { IfOk result (λ found. found ≡ clash_of H.digest_of faces.now) }
+    ensures { IfOk result (λ found. found ≡ clash_among (zip (map rep_of_info infos.now) faces.now)) }
 {
     let mut keys = keys_of(alloc, infos)?;
     keys.sort_unstable();

@@ -7,7 +7,7 @@ use crate::BagFault;
 use crate::bag_text::bag_at;
 use crate::cell_text::CellText;
 use crate::cells::cells_of;
-use crate::clashes::clash_of;
+use crate::clashes::least_clash;
 use cd_cell::{Bag, Hash32};
 use std::alloc::{AllocError, Global};
 
@@ -27,7 +27,7 @@ pub fn read_bag<H: Hash32>(alloc: Global, bytes: &[u8]) -> Result<Bag<H>, BagFau
         Ok(cells) => cells,
         Err(fault) => return Err(fault),
     };
-    match clash_of::<H>(alloc, &cells.faces, &cells.infos) {
+    match least_clash(alloc, &cells.faces, &cells.infos) {
         Ok(None) => {}
         Ok(Some(hash)) => return Err(BagFault::Clash { hash }),
         Err(_) => return Err(BagFault::Memory),

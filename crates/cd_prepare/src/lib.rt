@@ -6,6 +6,7 @@ mod laws;
 mod listing;
 mod prepare_fault;
 mod reach;
+mod start;
 mod update;
 mod zero;
 

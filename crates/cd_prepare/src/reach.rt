@@ -1,11 +1,10 @@
 ghost use Rattle.std.specs.Prelude.{◌≡◌, ◌<◌, false, true, [], length, replicate, slice_set, IfOk, OnOk};
-ghost use Rattle.cd_cell.specs.Tree.{info_of};
-ghost use Rattle.cd_cell.specs.Bags.{bag_cell};
 ghost use Rattle.cd_prepare.specs.Keys.{key_of};
 ghost use Rattle.cd_prepare.specs.Reached.{keys_with, AreReached};
 
 use crate::key::Key;
-use cd_cell::{Bag, ChildInfo, Hash32};
+use crate::start::Start;
+use cd_cell::{ChildInfo, Hash32};
 use std::alloc::{AllocError, Global};
 
 /// What is reached so far.
@@ -45,21 +44,14 @@ impl Reached {
 
 /// The key of each entry that a root leads to, and of the root itself. The entries are gone over from the root to the
 /// last one, since the children of an entry stand behind it.
-pub fn reach<H: Hash32>(
-    alloc: Global,
-    bag: &Bag<H>,
-    root: u32,
-    info: &ChildInfo,
-) -> Result<Vec<Key>, AllocError>
-    requires there { root < length bag.now.cells }
-    requires shown { info.now ≡ info_of H.digest_of (bag_cell bag.now.cells bag.now.refs root) }
-    ensures { IfOk result (λ keys. AreReached H.digest_of bag.now.cells bag.now.refs root keys.items) }
+pub fn reach<H: Hash32>(alloc: Global, root: &Start<'_, H>) -> Result<Vec<Key>, AllocError>
+    ensures { IfOk result (λ keys. AreReached H.digest_of root.now.bag.now.cells root.now.bag.now.refs root.now.number keys.items) }
 {
-    let cells = bag.cells.as_slice();
-    let refs = bag.refs.as_slice();
+    let cells = root.bag.cells.as_slice();
+    let refs = root.bag.refs.as_slice();
     let mut reached = Reached::nothing(alloc, cells.len())?;
-    reached.mark(info, root)?;
-    for number in root as usize..cells.len() {
+    reached.mark(&root.info, root.number)?;
+    for number in root.number as usize..cells.len() {
         if reached.marks[number] {
             for (place, kid) in cells[number].kids().iter().enumerate() {
                 reached.mark(kid, refs[number][place])?;

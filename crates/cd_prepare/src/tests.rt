@@ -1,13 +1,13 @@
 use crate::{PrepareFault, prepare_update, prepare_zero};
 use cd_base::Hash256;
 use cd_boc_read::read_bag;
-use cd_cell::{Bag, Bits, ChildInfo, Face, Mask, Prepared, WeakSum};
+use cd_cell::{Bag, Bits, ChildInfo, Face, Hash32, Mask, Prepared, Sha, WeakSum};
 use cd_update::Update;
 use std::alloc::{AllocError, Global};
 use std::test::Fail;
 
 // The bag of these bytes behind the magic number.
-fn bag(alloc: Global, rest: &[u8]) -> Result<Bag<WeakSum>, Fail> {
+fn bag_of<H: Hash32>(alloc: Global, rest: &[u8]) -> Result<Bag<H>, Fail> {
     let mut bytes = Vec::new(alloc);
     bytes.extend_from_slice(&[0xb5, 0xee, 0x9c, 0x72])?;
     bytes.extend_from_slice(rest)?;
@@ -15,6 +15,10 @@ fn bag(alloc: Global, rest: &[u8]) -> Result<Bag<WeakSum>, Fail> {
         Ok(bag) => Ok(bag),
         Err(_) => Err(Fail::from("a bag")),
     }
+}
+
+fn bag(alloc: Global, rest: &[u8]) -> Result<Bag<WeakSum>, Fail> {
+    bag_of::<WeakSum>(alloc, rest)
 }
 
 // The weak hash of this last byte.
@@ -240,12 +244,77 @@ fn a_hidden_cell_that_was_not_met_is_told(rt: HostRuntime) -> Result<(), Fail> {
 }
 
 #[test]
-fn two_new_cells_of_one_hash_are_told(rt: HostRuntime) -> Result<(), Fail> {
+fn the_least_hash_of_two_new_cells_is_told(rt: HostRuntime) -> Result<(), Fail> {
     let alloc = rt.alloc();
-    // The new root has a cell over the hidden one, whose hash becomes 4, and the cell of the byte 02.
-    let texts: [&[u8]; 4] = [&[34, 0, 2, 3], &[33, 0, 4], &[0, 2, 2], &pruned(3)];
-    let bytes = update_bag(alloc, &update(11, 2, 4, 1), 5, &texts)?;
+    // The new root has four children: a cell of the byte 05 over the hidden one, whose hash becomes 11, the cell of
+    // the byte 09, a cell over the hidden one, whose hash becomes 4, and the cell of the byte 02.
+    let texts: [&[u8]; 6] = [
+        &[36, 0, 2, 3, 4, 5],
+        &[33, 2, 5, 6],
+        &[0, 2, 9],
+        &[33, 0, 6],
+        &[0, 2, 2],
+        &pruned(3),
+    ];
+    let bytes = update_bag(alloc, &update(36, 2, 6, 1), 7, &texts)?;
     let due = Some(PrepareFault::NewClash { hash: weak(4) });
     assert!(rt; prepared(alloc, &bytes, 3, &[])?.err() == due);
+    Ok(())
+}
+
+// The bag of so many cells with these texts, whose numbers and offsets take two bytes.
+fn wide_bag(alloc: Global, count: u16, texts: &[u8]) -> Result<Bag<Sha>, Fail> {
+    let mut bytes = [2, 2].to_vec(alloc)?;
+    let total = u16::try_from(texts.len()).unwrap_or(0);
+    for number in [count, 1, 0, total, 0] {
+        bytes.extend_from_slice(&number.to_be_bytes())?;
+    }
+    bytes.extend_from_slice(texts)?;
+    bag_of::<Sha>(alloc, &bytes)
+}
+
+// The texts of 200 cells of this byte from a number on. Each has the next one four times, and the last has none.
+fn chain(alloc: Global, first: u16, byte: u8) -> Result<Vec<u8>, AllocError> {
+    let mut texts = Vec::new(alloc);
+    for step in 1..200u16 {
+        let [high, low] = first.wrapping_add(step).to_be_bytes();
+        texts.extend_from_slice(&[4, 2, byte, high, low, high, low, high, low, high, low])?;
+    }
+    texts.extend_from_slice(&[0, 2, byte])?;
+    Ok(texts)
+}
+
+// What the root of a bag shows.
+fn shown(bag: &Bag<Sha>) -> Result<ChildInfo, Fail> {
+    match bag.roots.as_slice() {
+        [root, ..] => Ok(bag.info(*root)),
+        [] => Err(Fail::from("a root")),
+    }
+}
+
+#[test]
+fn cells_of_four_equal_children_are_prepared_at_once(rt: HostRuntime) -> Result<(), Fail> {
+    let alloc = rt.alloc();
+    let old = wide_bag(alloc, 200, &chain(alloc, 0, 1)?)?;
+    let new = wide_bag(alloc, 200, &chain(alloc, 0, 2)?)?;
+    let (before, after) = (shown(&old)?, shown(&new)?);
+    // The update states both hashes and the depth 199 twice, and its halves are the entries 1 and 201.
+    let mut texts = [10, 138, 4].to_vec(alloc)?;
+    texts.extend_from_slice(&before.rep().0)?;
+    texts.extend_from_slice(&after.rep().0)?;
+    texts.extend_from_slice(&[0, 199, 0, 199, 0, 1, 0, 201])?;
+    texts.extend_from_slice(&chain(alloc, 1, 1)?)?;
+    texts.extend_from_slice(&chain(alloc, 201, 2)?)?;
+    let bag = wide_bag(alloc, 401, &texts)?;
+    let Ok(update) = Update::of(&bag) else {
+        return Err(Fail::from("an update"));
+    };
+    let mut faces = Vec::new(alloc);
+    for face in old.cells.as_slice() {
+        faces.push(Some(*face))?;
+    }
+    let value = prepare_update(alloc, &update, &before, &faces)?;
+    assert_eq!(rt; value.root, after);
+    assert_eq!(rt; value.cells.as_slice().len(), 200);
     Ok(())
 }

@@ -15,7 +15,7 @@ ghost use Rattle.cd_prepare.specs.Applied.{faces_fault, update_fault, IsApplied}
 use crate::PrepareFault;
 use crate::key::Key;
 use crate::listing::{cells_of, sort};
-use cd_boc_read::clash_of;
+use cd_boc_read::least_clash;
 use cd_cell::{ChildInfo, Face, Hash32, NewCell, Prepared};
 use cd_update::{Update, graft, pair_old};
 use std::alloc::{AllocError, Global};
@@ -64,7 +64,7 @@ fn new_cells<H: Hash32>(
     if infos.len() > u32::MAX as usize {
         return Err(PrepareFault::Memory);
     }
-    match clash_of::<H>(alloc, faces, infos) {
+    match least_clash(alloc, faces, infos) {
         Ok(None) => {}
         Ok(Some(hash)) => return Err(PrepareFault::NewClash { hash }),
         Err(_) => return Err(PrepareFault::Memory),

@@ -1,6 +1,6 @@
 ghost use Rattle.std.specs.Prelude.{◌≡◌, ◌<◌, ◌≤◌, [], ◌∷◌, None, All, IfOk, length, map};
 ghost use Rattle.cd_cell.specs.GoodFace.{IsGoodFace};
-ghost use Rattle.cd_cell.specs.Tree.{Tree, info_of};
+ghost use Rattle.cd_cell.specs.Tree.{Tree};
 ghost use Rattle.cd_cell.specs.Bags.{bag_cell, bag_trees};
 ghost use Rattle.cd_cell.specs.Export.{distinct_cells};
 ghost use Rattle.cd_cell.specs.Listings.{new_cell_of};
@@ -9,26 +9,34 @@ ghost use Rattle.cd_prepare.specs.States.{state_fault, Answers, IsWhole};
 use crate::PrepareFault;
 use crate::listing::{cells_of, sort};
 use crate::reach::reach;
-use cd_cell::{Bag, ChildInfo, Hash32, NewCell, Prepared};
+use crate::start::Start;
+use cd_cell::{Bag, Hash32, NewCell, Prepared};
 use std::alloc::{AllocError, Global};
 
 /// All cells that an entry of a bag leads to, its own first, each once, in the order of an export: by height, the
-/// greatest first, and then by hash, the least first. `info` is what the entry's cell shows. Nothing is hashed.
+/// greatest first, and then by hash, the least first. Nothing is hashed but the entry's cell.
 pub fn all_cells<H: Hash32>(
     alloc: Global,
     bag: &Bag<H>,
     root: u32,
-    info: &ChildInfo,
 ) -> Result<Vec<NewCell>, AllocError>
     requires there { root < length bag.now.cells }
-    requires shown { info.now ≡ info_of H.digest_of (bag_cell bag.now.cells bag.now.refs root) }
     ensures cells { IfOk result (λ cells. cells.items ≡ map (new_cell_of H.digest_of) (distinct_cells H.digest_of (bag_cell bag.now.cells bag.now.refs root))) }
     ensures few { IfOk result (λ cells. length cells.items ≤ length bag.now.cells) }
     ensures good { IfOk result (λ cells. All (λ c. IsGoodFace c.face) cells.items) }
 {
-    let mut keys = reach(alloc, bag, root, info)?;
+    cells_below(alloc, &Start::of(bag, root))
+}
+
+/// The same of an entry whose cell is hashed already.
+fn cells_below<H: Hash32>(alloc: Global, root: &Start<'_, H>) -> Result<Vec<NewCell>, AllocError>
+    ensures cells { IfOk result (λ cells. cells.items ≡ map (new_cell_of H.digest_of) (distinct_cells H.digest_of (bag_cell root.now.bag.now.cells root.now.bag.now.refs root.now.number))) }
+    ensures few { IfOk result (λ cells. length cells.items ≤ length root.now.bag.now.cells) }
+    ensures good { IfOk result (λ cells. All (λ c. IsGoodFace c.face) cells.items) }
+{
+    let mut keys = reach(alloc, root)?;
     sort(&mut keys);
-    cells_of(alloc, bag.cells.as_slice(), &keys)
+    cells_of(alloc, root.bag.cells.as_slice(), &keys)
 }
 
 /// The prepared value of a state that a bag has whole: all its cells are new. Nothing is hashed but the root.
@@ -42,12 +50,14 @@ pub fn prepare_zero<H: Hash32>(alloc: Global, bag: &Bag<H>) -> Result<Prepared<H
         let roots = u32::try_from(bag.roots.as_slice().len()).unwrap_or(u32::MAX);
         return Err(PrepareFault::Roots { roots });
     };
-    let info = bag.info(*root);
-    if info.mask.byte() != 0 {
-        return Err(PrepareFault::Level { mask: info.mask });
+    let start = Start::of(bag, *root);
+    if start.info.mask.byte() != 0 {
+        return Err(PrepareFault::Level {
+            mask: start.info.mask,
+        });
     }
-    let Ok(cells) = all_cells(alloc, bag, *root, &info) else {
+    let Ok(cells) = cells_below(alloc, &start) else {
         return Err(PrepareFault::Memory);
     };
-    Ok(Prepared::new(None, info, cells))
+    Ok(Prepared::new(None, start.info, cells))
 }

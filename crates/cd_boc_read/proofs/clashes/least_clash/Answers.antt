@@ -1,24 +1,22 @@
 use Rattle.std.proofs.Common.{◌<◌, List, length, All, IfSome, IfNone, sym, subst, IsPermutation}
 use Rattle.cd_boc_read.specs.Clashes.{Key, AllAgree, IsFirstClash}
 use Rattle.cd_boc_read.proofs.ClashLaws.{keys-within, found-is}
-use Rattle.cd_boc_read.proofs.clashes.clash_of.Goals as goal
+use Rattle.cd_boc_read.proofs.clashes.least_clash.Goals as goal
 
 pub first_clash-requires : goal.first_clash-requires
-first_clash-requires g c =
-    let H = g.H.Hash32.digest_of in
+first_clash-requires c =
     let fs = c.args.faces.now in
     let infos = c.args.infos.now in
     let keys = c.sort_unstable.new.self.items in
     let moved = subst (λ (ks : List Key). IsPermutation ks keys) c.in_ok-keys.ensures c.sort_unstable.ensures.permutation in
-    subst (λ (ks : List Key). All (λ (key : Key). key.1 < length fs) ks) (sym c.deref.ensures.value) (keys-within H fs infos c.requires.shown keys moved)
+    subst (λ (ks : List Key). All (λ (key : Key). key.1 < length fs) ks) (sym c.deref.ensures.value) (keys-within fs infos c.requires.counted keys moved)
 
 pub returns : goal.returns
-returns g c =
-    let H = g.H.Hash32.digest_of in
+returns c =
     let fs = c.args.faces.now in
     let infos = c.args.infos.now in
     let keys = c.sort_unstable.new.self.items in
     let moved = subst (λ (ks : List Key). IsPermutation ks keys) c.in_ok-keys.ensures c.sort_unstable.ensures.permutation in
     let none = subst (λ (ks : List Key). IfNone c.first_clash.result (AllAgree fs ks (length ks))) c.deref.ensures.value c.first_clash.ensures.none in
     let some = subst (λ (ks : List Key). IfSome c.first_clash.result (IsFirstClash fs ks)) c.deref.ensures.value c.first_clash.ensures.some in
-    found-is H fs infos c.requires.shown keys moved c.sort_unstable.ensures.sorted c.first_clash.result none some
+    found-is fs infos c.requires.counted keys moved c.sort_unstable.ensures.sorted c.first_clash.result none some
