@@ -68,14 +68,16 @@ fn refusal_of(fault: &PrepareFault) -> Status
 }
 
 /// The value of the state that these bytes are a bag of, or the status of a call over bytes that are no such bag. The
-/// bag is given up here.
-fn prepared_of<H: Hash32>(alloc: Global, bytes: &[u8]) -> Result<Prepared<H>, Status>
-    ensures found { IfOk result (λ value. (state : Tree) × IsStateBag H.digest_of bytes.now state × IsClashFree H.digest_of state
+/// bytes are given up once they are read, and the bag once it is listed.
+fn prepared_of<H: Hash32>(alloc: Global, bytes: Vec<u8>) -> Result<Prepared<H>, Status>
+    ensures found { IfOk result (λ value. (state : Tree) × IsStateBag H.digest_of bytes.items state × IsClashFree H.digest_of state
         × IsWhole H.digest_of state value.root value.cells) }
     ensures few { IfOk result (λ value. length value.cells ≤ 1048576) }
-    ensures refused { IfErr result (IsRefusal H.digest_of bytes.now) }
+    ensures refused { IfErr result (IsRefusal H.digest_of bytes.items) }
 {
-    let bag = match read_bag::<H>(alloc, bytes) {
+    let read = read_bag::<H>(alloc, &bytes);
+    drop(bytes);
+    let bag = match read {
         Ok(bag) => bag,
         Err(BagFault::Memory) => return Err(Status::Memory),
         Err(fault) => return Err(Status::BadInput(InputFault::Bag(fault))),
@@ -87,10 +89,10 @@ fn prepared_of<H: Hash32>(alloc: Global, bytes: &[u8]) -> Result<Prepared<H>, St
 }
 
 /// What is to be stored and printed for these bytes, or the status of a call over bytes that are no bag of a state.
-fn plan_of<H: Hash32>(alloc: Global, bytes: &[u8]) -> Result<Plan, Status>
-    ensures found { IfOk result (λ plan. (state : Tree) × IsStateBag H.digest_of bytes.now state
+fn plan_of<H: Hash32>(alloc: Global, bytes: Vec<u8>) -> Result<Plan, Status>
+    ensures found { IfOk result (λ plan. (state : Tree) × IsStateBag H.digest_of bytes.items state
         × (plan.batch ≡ change_of H.digest_of (zero_world H.digest_of state)) × (string_bytes plan.text ≡ zero_text H.digest_of state)) }
-    ensures refused { IfErr result (IsRefusal H.digest_of bytes.now) }
+    ensures refused { IfErr result (IsRefusal H.digest_of bytes.items) }
 {
     let value = match prepared_of::<H>(alloc, bytes) {
         Ok(value) => value,
@@ -161,7 +163,7 @@ pub fn celldb_once<S: Source, O: Sink, K: Keeper, H: Hash32>(
         }
         Err(ReadAllFault::Memory) => return Ended::of(Status::Memory, keeper),
     };
-    match plan_of::<H>(alloc, &bytes) {
+    match plan_of::<H>(alloc, bytes) {
         Ok(plan) => store(&plan, out, keeper),
         Err(status) => Ended::of(status, keeper),
     }

@@ -1,4 +1,4 @@
-use Rattle.std.proofs.Common.{◌≡◌, ℕ, List, [], ◌∷◌, map, sym, ap, subst, ◌∙◌, arith}
+use Rattle.std.proofs.Common.{◌≡◌, ℕ, List, [], ◌∷◌, sym, ap, subst, ◌∙◌, arith}
 use Rattle.std.specs.Map.{keys_of}
 use Rattle.std.specs.List.{IsDistinct}
 use Rattle.std.specs.FinMap.{len}
@@ -8,7 +8,6 @@ use Rattle.cd_block.specs.Block.{key_of}
 use Rattle.cd_block.specs.Description.{descr_text}
 use Rattle.cd_keeper.specs.NoKeyTwice.{same_key}
 use Rattle.cd_world.specs.World.{held_cells}
-use Rattle.cd_top.specs.Order.{record_put}
 use Rattle.cd_top.specs.Zero.{zero_id, zero_descr, zero_world, printed_of}
 use Rattle.cd_top.proofs.StateLaws.{puts-distinct, puts-are, number-is}
 use Rattle.cd_top.proofs.zero.plan_zero.Goals as goal
@@ -16,7 +15,7 @@ use Rattle.cd_top.proofs.zero.plan_zero.Goals as goal
 pub batch_of-requires-clause-keys : goal.batch_of-requires-clause-keys
 batch_of-requires-clause-keys g c =
     let value = c.args.value.now in
-    let puts = c.in_ok-puts.ensures ∙ ap (map (record_put value.root value.cells)) c.deref-2.ensures.value in
+    let puts = rw c.deref-2.ensures.value at c.in_ok-puts.ensures in
     subst (λ (es : List (List ℕ × List ℕ)). IsDistinct same_key (keys_of es)) (sym puts) (puts-distinct value.root value.cells c.in_ok-order.order.items c.in_ok-order.ensures)
 
 pub returns-clause-batch : goal.returns-clause-batch
@@ -27,8 +26,7 @@ returns-clause-batch g c = λ state clear whole.
     let id : c.id_of-id.result ≡ zero_id (rep_of H state) = c.id_of-id.ensures ∙ ap zero_id (c.rep.ensures ∙ ap rep_of_info whole.root_is) in
     let height : c.height.result ≡ height_of H state = c.height.ensures ∙ ap height_of_info whole.root_is in
     let puts =
-    c.in_ok-puts.ensures
-    ∙ ap (map (record_put value.root value.cells)) c.deref-2.ensures.value
+    rw c.deref-2.ensures.value at c.in_ok-puts.ensures
     ∙ puts-are H state clear value.root value.cells whole order c.in_ok-order.ensures (zero_id (rep_of H state)) in
     c.in_ok-batch.ensures ∙ (λ i. record { put_cells = puts i; drop_cells = []; put_descs = (key_of (id i), descr_text (zero_descr (id i) (height i))) ∷ []; drop_descs = [] })
 
