@@ -26,12 +26,15 @@ pub fn encode_cell(alloc: Global, count: u32, face: &Face) -> Result<Vec<u8>, Me
     requires fit { IsFaceFit face.now }
     ensures { IfOk result (λ text. text.items ≡ record_text count face.now) }
 {
-    let mut text = Vec::new(alloc);
+    // Room for children of level 0, of which nearly all are.
+    let data = face.bits().data();
+    let kids = face.kids();
+    let mut text = Vec::with_capacity(alloc, 7 + data.len() + 35 * kids.len())?;
     text.push(1)?;
     text.extend_from_slice(&count.to_be_bytes())?;
     text.extend_from_slice(&face.descriptors(face.mask()))?;
-    text.extend_from_slice(face.bits().data())?;
-    put_kids(&mut text, face.kids())?;
+    text.extend_from_slice(data)?;
+    put_kids(&mut text, kids)?;
     Ok(text)
 }
 
