@@ -48,3 +48,64 @@ fn print_fault<W: fmt::Write>(fault: &PrepareFault, f: &mut fmt::Formatter<W>) -
         PrepareFault::Memory => f.write_str("Memory"),
     }
 }
+
+#[cfg(test)]
+mod tests {
+    use super::*;
+    use cd_base::Hash256;
+    use cd_cell::{Bits, Face, Mask};
+    use std::test::Fail;
+
+    #[test]
+    fn each_refusal_has_its_fields(rt: HostRuntime) -> Result<(), Fail> {
+        let alloc = rt.alloc();
+        let hash = Hash256([0xab; 32]);
+        let face = Face::new(false, Bits::from_slice(&[], 0).ok_or("bits")?, &[]);
+        let (stored, shown) = (face, face);
+        let mask = Mask::of(5).ok_or("a mask")?;
+        let (stated, real) = (1, 2);
+        let hashed = "hash: abababababababababababababababababababababababababababababababab }";
+        let cases = [
+            (
+                Refusal::Update(UpdateFault::Level { mask: 5 }),
+                "Level { ",
+                "mask: 5 }",
+            ),
+            (
+                Refusal::Prepare(PrepareFault::Level { mask }),
+                "Level { ",
+                "mask: 5 }",
+            ),
+            (
+                Refusal::Prepare(PrepareFault::OldDepth { stated, real }),
+                "OldDepth { ",
+                "stated: 1, real: 2 }",
+            ),
+            (
+                Refusal::Prepare(PrepareFault::OldHalf {
+                    hash,
+                    stored,
+                    shown,
+                }),
+                "OldHalf { ",
+                hashed,
+            ),
+            (
+                Refusal::Prepare(PrepareFault::Foreign { hash }),
+                "Foreign { ",
+                hashed,
+            ),
+            (
+                Refusal::Prepare(PrepareFault::NewClash { hash }),
+                "NewClash { ",
+                hashed,
+            ),
+        ];
+        for (refusal, name, fields) in cases {
+            let mut due = String::from_str(alloc, name)?;
+            due.push_str(fields)?;
+            assert_eq!(rt; refusal.to_string(alloc)?.as_str(), due.as_str());
+        }
+        Ok(())
+    }
+}
