@@ -1,1 +1,4 @@
 pub mod Verdicts
+pub mod OldStates
+pub mod StateFaults
+pub mod UpdateVerdicts

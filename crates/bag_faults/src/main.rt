@@ -2,12 +2,19 @@
 #![tactic(auto)]
 
 mod export;
+mod hex_hash;
 mod mode;
+mod old_state;
+mod refusal;
+mod update_verdict;
 mod verdict;
 
 use crate::mode::{HELP, Mode};
+use crate::old_state::{OldState, state_of_line};
+use crate::update_verdict::update_verdict_of_line;
 use crate::verdict::{export_of, verdict_of, verdict_of_line};
 use cd_cell::Sha;
+use std::alloc::Global;
 use std::env;
 use std::io::{self, BufRead, BufReader, BufWriter, Read, Write};
 use std::process::ExitCode;
@@ -58,11 +65,55 @@ fn print_export<R: Input + Print + AllocGlobal>(rt: &R) -> io::Result<()> {
     }
 }
 
+/// The state of the first line, whose verdict is printed; `None` where it has none.
+fn print_state<W: Write>(
+    alloc: Global,
+    out: &mut W,
+    line: &[u8],
+) -> io::Result<Option<OldState<Sha>>> {
+    match state_of_line::<Sha>(alloc, line)? {
+        Some(Ok(state)) => {
+            writeln!(out, "{}", state.verdict())?;
+            Ok(Some(state))
+        }
+        Some(Err(refusal)) => {
+            writeln!(out, "{refusal}")?;
+            Ok(None)
+        }
+        None => {
+            writeln!(out, "not hexadecimal")?;
+            Ok(None)
+        }
+    }
+}
+
+/// Prints a line for the state in the first line of standard input, and where it is one a line for each line behind
+/// it, which is an update of that state.
+fn print_updates<R: Input + Print + AllocGlobal>(rt: &R) -> io::Result<()> {
+    let alloc = rt.alloc();
+    let mut out = BufWriter::new(alloc, io::writer(rt))?;
+    let mut lines = BufReader::new(alloc, rt.reader())?.split(alloc, b'\n');
+    let Some(first) = lines.next() else {
+        return Ok(());
+    };
+    let Some(state) = print_state(alloc, &mut out, &first?)? else {
+        return out.flush();
+    };
+    for line in lines {
+        match update_verdict_of_line(alloc, &state, &line?)? {
+            Some(verdict) => writeln!(out, "{verdict}")?,
+            None => writeln!(out, "not hexadecimal")?,
+        }
+    }
+    out.flush()
+}
+
 fn run<R: Input + Print + AllocGlobal>(rt: &R, mode: Mode) -> io::Result<()> {
     match mode {
         Mode::Lines => print_lines(rt),
         Mode::Raw => print_raw(rt),
         Mode::Export => print_export(rt),
+        Mode::Updates => print_updates(rt),
         Mode::Help => print!(rt; "{HELP}"),
     }
 }

@@ -9,6 +9,8 @@ pub enum Mode {
     Raw,
     /// The export text of the one root, for all of standard input.
     Export,
+    /// A state in the first line of standard input, and a line for each line behind it, which has an update.
+    Updates,
     /// The text of `--help`.
     Help,
 }
@@ -20,9 +22,11 @@ Says of bags of cells what they have, or why they are refused.
     bag_faults                 reads a bag in hexadecimal from each line of standard input
     bag_faults --raw           reads one bag from standard input, as bytes
     bag_faults --raw --export  the same, but writes the export text of the bag's one root
+    bag_faults --updates       reads a state from the first line, and from each other line a Merkle update of it
     bag_faults --help          prints this text
 
-For each bag it prints a line: `ok roots N cells M`, or the first fault with its fields.
+For each bag it prints a line: `ok roots N cells M`, or the first fault with its fields. For an update it prints
+`ok shown N new M root HASH`, or why it isn't prepared: the shown cells of the state, and the new ones.
 ";
 
 impl Mode {
@@ -30,6 +34,7 @@ impl Mode {
     pub fn of(words: &[String]) -> Option<Mode>
         ensures lines { (result ≡ Some Mode.Lines) ↔ (words.now ≡ []) }
         ensures raw { (result ≡ Some Mode.Raw) ↔ (map string_bytes words.now ≡ codes "--raw" ∷ []) }
+        ensures updates { (result ≡ Some Mode.Updates) ↔ (map string_bytes words.now ≡ codes "--updates" ∷ []) }
     {
         match words {
             [] => Some(Mode::Lines),
@@ -49,10 +54,12 @@ impl Mode {
     fn of_word(word: &str) -> Option<Mode>
         ensures lines { result ≢ Some Mode.Lines }
         ensures raw { (result ≡ Some Mode.Raw) ↔ (word.now ≡ codes "--raw") }
+        ensures updates { (result ≡ Some Mode.Updates) ↔ (word.now ≡ codes "--updates") }
     {
         match word {
             "--raw" => Some(Mode::Raw),
             "--export" => Some(Mode::Export),
+            "--updates" => Some(Mode::Updates),
             "--help" | "-h" => Some(Mode::Help),
             _ => None,
         }
@@ -84,6 +91,7 @@ mod tests {
         assert_eq!(rt; Mode::of(&[]), Some(Mode::Lines));
         assert_eq!(rt; mode(alloc, "--raw")?, Some(Mode::Raw));
         assert_eq!(rt; mode(alloc, "--export")?, Some(Mode::Export));
+        assert_eq!(rt; mode(alloc, "--updates")?, Some(Mode::Updates));
         assert_eq!(rt; mode(alloc, "--help")?, Some(Mode::Help));
         assert_eq!(rt; mode(alloc, "raw")?, None);
         assert_eq!(rt; mode(alloc, "")?, None);

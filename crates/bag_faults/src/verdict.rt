@@ -6,6 +6,7 @@ ghost use Rattle.cd_boc_write.specs.Exports.{bag_of};
 ghost use Rattle.bag_faults.specs.Verdicts.{IsTrueOf};
 
 use crate::export::export;
+use crate::hex_hash::HexHash;
 use cd_boc_read::{BagFault, read_bag};
 use cd_cell::Hash32;
 use hex::FromHexError;
@@ -74,11 +75,7 @@ impl fmt::Display for Verdict {
         match self {
             Verdict::Good { roots, cells } => write!(f, "ok roots {roots} cells {cells}"),
             Verdict::Refused(BagFault::Clash { hash }) => {
-                f.write_str("Clash { hash: ")?;
-                for byte in hash.0 {
-                    write!(f, "{byte:02x}")?;
-                }
-                f.write_str(" }")
+                write!(f, "Clash {{ hash: {} }}", HexHash(*hash))
             }
             Verdict::Refused(fault) => write!(f, "{fault:?}"),
         }
