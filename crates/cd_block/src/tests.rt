@@ -203,3 +203,26 @@ fn tops_are_read_back(rt: HostRuntime) -> Result<(), Fail> {
     assert!(rt; read.leaving);
     Ok(())
 }
+
+#[test]
+fn each_fault_has_a_text(rt: HostRuntime) -> Result<(), Fail> {
+    let late = LineageFault::Seqno { stated: 2, due: 1 };
+    let text = format!(in rt.alloc(); "{}; {}", LineageFault::Shard, late)?;
+    assert_eq!(rt;
+        text.as_str(),
+        "the block's shard does not follow from its parents'; the block's seqno is 2, and 1 is due"
+    );
+    let text = format!(in rt.alloc();
+        "{}; {}; {}; {}; {}",
+        DescrFault::Version,
+        DescrFault::Cut,
+        DescrFault::Extra,
+        DescrFault::Form,
+        DescrFault::Memory
+    )?;
+    assert_eq!(rt;
+        text.as_str(),
+        "the description has another version; the description ends early; bytes stand behind the description; a field of the description is outside its range; out of memory"
+    );
+    Ok(())
+}

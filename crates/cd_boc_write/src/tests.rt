@@ -1,7 +1,7 @@
 ghost use Rattle.std.specs.Prelude.{◌≡◌, ◌+◌, length, All, OnOk, IfOk};
 ghost use Rattle.cd_cell.specs.GoodFace.{IsGoodFace};
 
-use crate::{lay_out, put_cell, write_bag};
+use crate::{WriteFault, lay_out, put_cell, write_bag};
 use cd_cell::{Bits, ChildInfo, Face, NewCell, Sha, face_info};
 use std::alloc::Global;
 use std::test::Fail;
@@ -184,5 +184,12 @@ fn a_text_goes_behind_what_stands_there(rt: HostRuntime) -> Result<(), Fail> {
     put_cell(&mut out, &face, &[5, 70_000], 3)?;
     let expected = [7, 2, 1, 0xf4, 0, 0, 5, 1, 0x11, 0x70];
     assert_eq!(rt; out.as_slice(), expected.as_slice());
+    Ok(())
+}
+
+#[test]
+fn the_fault_has_a_text(rt: HostRuntime) -> Result<(), Fail> {
+    let text = WriteFault::Memory.to_string(rt.alloc())?;
+    assert_eq!(rt; text.as_str(), "out of memory");
     Ok(())
 }

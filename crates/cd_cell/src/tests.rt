@@ -275,3 +275,45 @@ fn bits_of_data(rt: HostRuntime) -> Result<(), Fail> {
     );
     Ok(())
 }
+
+#[test]
+fn bits_are_printed(rt: HostRuntime) -> Result<(), Fail> {
+    let bits = Bits::from_data(&[0x0a, 0xd8], false).ok_or("bits")?;
+    let text = format!(in rt.alloc(); "{bits:?}")?;
+    assert_eq!(rt; text.as_str(), "12 bits 0ad8");
+    Ok(())
+}
+
+#[test]
+fn each_fault_has_a_text(rt: HostRuntime) -> Result<(), Fail> {
+    let alloc = rt.alloc();
+    let texts = [
+        (CellFault::Short, "an exotic cell of fewer than 8 bits"),
+        (CellFault::KindByte { value: 5 }, "an exotic cell of type 5"),
+        (
+            CellFault::Refs { real: 2 },
+            "an exotic cell with 2 references",
+        ),
+        (
+            CellFault::PrunedMask { value: 8 },
+            "a pruned branch of mask 8",
+        ),
+        (
+            CellFault::Length { real: 831 },
+            "an exotic cell of 831 bits",
+        ),
+        (
+            CellFault::MerkleHash { place: 1 },
+            "a Merkle cell states another hash than child 1 has",
+        ),
+        (
+            CellFault::MerkleDepth { place: 0 },
+            "a Merkle cell states another depth than child 0 has",
+        ),
+        (CellFault::DepthBig { depth: 1025 }, "a cell of depth 1025"),
+    ];
+    for (fault, text) in texts {
+        assert_eq!(rt; fault.to_string(alloc)?.as_str(), text);
+    }
+    Ok(())
+}

@@ -127,3 +127,10 @@ fn a_memory_keeper_tells_each_moment(rt: HostRuntime) -> Result<(), Fail> {
     assert!(rt; keeper.at(3)?.is_none());
     Ok(())
 }
+
+#[test]
+fn each_fault_has_a_text(rt: HostRuntime) -> Result<(), Fail> {
+    let text = format!(in rt.alloc(); "{}; {}", KeepFault::Failed, KeepFault::Memory)?;
+    assert_eq!(rt; text.as_str(), "the keeper failed; out of memory");
+    Ok(())
+}

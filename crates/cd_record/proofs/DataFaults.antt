@@ -1,6 +1,6 @@
 -- Bytes that are no data lack their completion.
-use Rattle.std.proofs.Common.{◌≡◌, ℕ, ◌+◌, ◌-◌, ◌/◌, ◌%◌, ◌<◌, ◌≤◌, Bool, true, false, eqb, List, length, get_or, arith, refl, ◌∙◌, inl, inr, ⊎_elim, ◌⊎◌}
-use Rattle.std.proofs.lemmas.Bool.{eqb-true, eqb-false, true≢false}
+use Rattle.std.proofs.Common.{◌≡◌, ℕ, ◌+◌, ◌-◌, ◌/◌, ◌%◌, ◌<◌, Bool, true, false, eqb, List, length, get_or, arith, refl, inl, inr, ⊎_elim, ◌⊎◌}
+use Rattle.std.proofs.lemmas.Bool.{eqb-true, eqb-false}
 use Rattle.cd_cell.specs.BitText.{IsBitData}
 use Rattle.cd_record.specs.RecordReading.{lacks_completion}
 

@@ -1,12 +1,12 @@
 -- A field that is read is the field that was written, and what was written is read again.
-use Rattle.std.proofs.Common.{◌≡◌, ℕ, zero, suc, ◌+◌, ◌-◌, ◌/◌, ◌%◌, ◌^◌, ◌<◌, ◌≤◌, Bool, true, false, not, ◌&&◌, ◌||◌, cond, ltb, eqb, List, [], ◌∷◌, ◌++◌, length, get_or, take, drop, Result, Ok, Err, refl, sym, ap, subst, ◌∙◌, append_assoc, arith}
+use Rattle.std.proofs.Common.{◌≡◌, ℕ, ◌+◌, ◌-◌, ◌/◌, ◌%◌, ◌^◌, ◌<◌, ◌≤◌, Bool, true, false, not, ◌&&◌, ◌||◌, cond, ltb, eqb, List, [], ◌∷◌, ◌++◌, length, get_or, take, drop, Result, Ok, Err, refl, sym, ap, subst, ◌∙◌, arith}
 use Rattle.std.specs.Int.{w32, to_be_bytes, from_be_bytes}
-use Rattle.std.proofs.lemmas.Bool.{eqb-true, eqb-false, ltb-false, le-ltb, ne_eqb, true≢false}
+use Rattle.std.proofs.lemmas.Bool.{eqb-true, eqb-false, ltb-false, le-ltb, ne_eqb}
 use Rattle.std.proofs.lemmas.List.{take_at, drop_at, take-append-drop, length-append, length-take}
 use Rattle.std.proofs.lemmas.Nat.{be_bytes_4, from_be_bytes-to_be_bytes_4}
 use Rattle.cd_base.specs.Numbers.{IsBytes}
 use Rattle.cd_base.proofs.NumberLaws.{IsBytes-take, IsBytes-drop, IsBytes-cons}
-use Rattle.cd_cell.specs.BitText.{data_of, byte_count, data_bits, is_odd, IsBitData}
+use Rattle.cd_cell.specs.BitText.{data_of, data_bits, is_odd, IsBitData}
 use Rattle.cd_cell.specs.Levels.{descriptor2}
 use Rattle.cd_cell.proofs.BitLemmas.{length-data_of}
 use Rattle.cd_cell.proofs.DataBits.{data_of-data_bits, data_bits-few, descriptor2-data_bits_whole, descriptor2-data_bits_cut, data_bits-data_of, IsBitData-data_of}

@@ -1,5 +1,5 @@
 -- Children that are read are spelled so, and what was written of children is read again.
-use Rattle.std.proofs.Common.{◌≡◌, ℕ, zero, suc, ◌+◌, ◌*◌, ◌^◌, ◌<◌, ◌≤◌, Bool, false, List, [], ◌∷◌, ◌++◌, length, get_or, take, drop, Result, Ok, refl, sym, ap, subst, ◌∙◌, append_assoc, append-nil, arith}
+use Rattle.std.proofs.Common.{◌≡◌, ℕ, zero, suc, ◌+◌, ◌*◌, ◌^◌, ◌<◌, ◌≤◌, Bool, false, List, [], ◌∷◌, ◌++◌, length, get_or, take, drop, Ok, refl, sym, ap, subst, ◌∙◌, append_assoc, arith}
 use Rattle.std.specs.Prelude.{if◌then◌else◌}
 use Rattle.std.specs.List.{flat_map, AllByRecursion}
 use Rattle.std.proofs.Math.Nat.{mul-le-mul_left}
@@ -15,10 +15,9 @@ use Rattle.cd_cell.specs.Masks.{is_significant, bit_count}
 use Rattle.cd_cell.specs.Infos.{info_hash, info_depth, no_hash}
 use Rattle.cd_cell.specs.Steady.{IsSteady}
 use Rattle.cd_cell.specs.StoredText.{levels_of, hash_text, depth_text, stored_hashes, stored_depths}
-use Rattle.cd_record.specs.declared.record_fault.RecordFault.{RecordFault}
 use Rattle.cd_record.specs.RecordText.{kid_text}
 use Rattle.cd_record.specs.Records.{IsInfo}
-use Rattle.cd_record.specs.RecordReading.{◌>>=◌, part_at, mask_at, kid_at, kids_at, place_of, hash_in, depth_in, info_in}
+use Rattle.cd_record.specs.RecordReading.{part_at, mask_at, kid_at, kids_at, place_of, hash_in, depth_in, info_in}
 use Rattle.cd_record.proofs.KidTexts.{flat_map-filter}
 use Rattle.cd_record.proofs.StoredLevels.{place_of-below, place_of-lt, length-levels_of, value-at, length-pieces, piece-at, pieces-of_levels}
 use Rattle.cd_record.proofs.Fields.{by_ok, ok_is, Takes, part_takes, part_again, mask_takes, mask_again}

@@ -1,9 +1,7 @@
 -- What stands for a child's significant levels, level by level.
-use Rattle.std.proofs.Common.{◌≡◌, ℕ, Bool, true, false, List, [], ◌∷◌, ◌++◌, refl, sym, ap, ◌∙◌, append_assoc, append-nil}
+use Rattle.std.proofs.Common.{◌≡◌, ℕ, Bool, true, false, List, [], ◌∷◌, ◌++◌, refl, ap, ◌∙◌, append_assoc, append-nil}
 use Rattle.std.specs.Prelude.{if◌then◌else◌}
 use Rattle.std.specs.List.{filter, flat_map}
-use Rattle.cd_cell.specs.declared.info.ChildInfo.{ChildInfo}
-use Rattle.cd_cell.specs.Masks.{is_significant}
 
 -- what f makes of the elements that pass, element by element
 pub flat_map-filter : {X : Type 0} (p : X → Bool) (f : X → List ℕ) (xs : List X) → flat_map f (filter p xs) ≡ flat_map (λ x. if p x then f x else []) xs

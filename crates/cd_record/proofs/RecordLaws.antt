@@ -6,24 +6,22 @@ use Rattle.std.specs.Int.{w32, to_be_bytes}
 use Rattle.std.proofs.lemmas.Bool.{eqb-true, eqb-false}
 use Rattle.std.proofs.lemmas.List.{append-nil, nil_from_length}
 use Rattle.cd_base.specs.Numbers.{IsBytes}
-use Rattle.cd_base.proofs.NumberLaws.{IsBytes-cons}
 use Rattle.cd_cell.specs.declared.info.ChildInfo.{ChildInfo}
 use Rattle.cd_cell.specs.declared.cell_fault.CellFault.{CellFault}
 use Rattle.cd_cell.specs.BitText.{is_odd, data_of}
 use Rattle.cd_cell.specs.FaceView.{FaceView}
 use Rattle.cd_cell.specs.Levels.{mask_of_face, descriptor1, descriptor2}
-use Rattle.cd_cell.specs.CellFaults.{fault_of, kid_at}
-use Rattle.cd_cell.specs.GoodFace.{IsGoodFace}
+use Rattle.cd_cell.specs.CellFaults.{fault_of}
 use Rattle.cd_cell.specs.Steady.{IsSteady}
 use Rattle.cd_cell.proofs.FitLemmas.{fault_of-fit, fit_from_no_fault}
 use Rattle.cd_record.specs.declared.record.Record.{Record}
 use Rattle.cd_record.specs.declared.record_fault.RecordFault.{RecordFault}
-use Rattle.cd_record.specs.declared.record_fault.RecordFault.TheVariants.{Extra, Form, Cell}
+use Rattle.cd_record.specs.declared.record_fault.RecordFault.TheVariants.{Extra, Form}
 use Rattle.cd_record.specs.RecordText.{kid_text, record_text}
 use Rattle.cd_record.specs.Records.{IsInfo, IsRecord}
 use Rattle.cd_record.specs.RecordReading.{Gives, version_at, count_at, descriptor_at, bits_at, kids_at, judged, record_in}
-use Rattle.cd_record.proofs.Fields.{by_ok, ok_is, met, Takes, TakesByte, version_takes, version_again, count_takes, count_again, descriptor_takes, descriptor_again, bits_take, bits_again}
-use Rattle.cd_record.proofs.KidReading.{kids_again, kids_take, TakesKids}
+use Rattle.cd_record.proofs.Fields.{by_ok, ok_is, met, version_takes, version_again, count_takes, count_again, descriptor_takes, descriptor_again, bits_take, bits_again}
+use Rattle.cd_record.proofs.KidReading.{kids_again, kids_take}
 
 -- the fields one behind the other
 joined : ℕ → ℕ → List Bool → List ChildInfo → List ℕ

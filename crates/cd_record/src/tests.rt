@@ -75,3 +75,22 @@ fn a_child_is_written_at_its_significant_levels(rt: HostRuntime) -> Result<(), F
     assert_eq!(rt; read.face, face);
     Ok(())
 }
+
+#[test]
+fn each_fault_has_a_text(rt: HostRuntime) -> Result<(), Fail> {
+    let text = format!(in rt.alloc();
+        "{}; {}; {}; {}; {}",
+        RecordFault::Version { value: 2 },
+        RecordFault::Cut,
+        RecordFault::Extra,
+        RecordFault::Form,
+        RecordFault::Cell {
+            fault: CellFault::Short,
+        }
+    )?;
+    assert_eq!(rt;
+        text.as_str(),
+        "a record of version 2; the record is cut; bytes stand behind the record; a field of the record is outside its range; a record of no cell: an exotic cell of fewer than 8 bits"
+    );
+    Ok(())
+}

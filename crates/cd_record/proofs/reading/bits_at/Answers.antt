@@ -1,6 +1,6 @@
 -- Bytes that are no data lack their completion.
-use Rattle.std.proofs.Common.{◌≡◌, ◌+◌, ◌/◌, ◌%◌, ◌<◌, eqb, length, true, refl, arith}
-use Rattle.std.proofs.lemmas.Bool.{true≢false, false≢true}
+use Rattle.std.proofs.Common.{◌≡◌, true, refl}
+use Rattle.std.proofs.lemmas.Bool.{false≢true}
 use Rattle.cd_record.specs.RecordReading.{bits_at, lacks_completion}
 use Rattle.cd_record.proofs.DataFaults.{lacks-by}
 use Rattle.cd_record.proofs.reading.bits_at.Goals as goal
