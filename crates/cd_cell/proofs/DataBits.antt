@@ -1,8 +1,8 @@
 -- Data as bytes, and the bits whose data they are.
-use Rattle.std.proofs.Common.{◌≡◌, ◌≢◌, ℕ, ◌+◌, ◌-◌, ◌*◌, ◌/◌, ◌%◌, ◌≤◌, ◌<◌, Bool, true, false, eqb, List, length, get_or, refl, ap, sym, ◌∙◌, arith}
+use Rattle.std.proofs.Common.{◌≡◌, ℕ, ◌+◌, ◌-◌, ◌*◌, ◌%◌, ◌≤◌, ◌<◌, Bool, true, false, eqb, List, length, get_or, refl, arith}
 use Rattle.std.specs.Int.{w8, trailing_zeros}
-use Rattle.std.proofs.lemmas.Bool.{eqb-true, eqb-false, true≢false}
-use Rattle.cd_cell.specs.BitText.{data_of, byte_count, first_bits, data_bits, IsBitData}
+use Rattle.std.proofs.lemmas.Bool.{eqb-true, eqb-false}
+use Rattle.cd_cell.specs.BitText.{data_of, byte_count, data_bits, IsBitData}
 use Rattle.cd_cell.specs.Levels.{descriptor2}
 use Rattle.cd_cell.proofs.BitLemmas.{data_of-whole, data_of-completed, kept-few, length-first_bits, length-data_of, bits_of_whole_data, bits_of_cut_data}
 
