@@ -86,7 +86,10 @@ impl<H: Hash32> OldState<H> {
     {
         let mut faces = Vec::with_capacity(alloc, hashes.len())?;
         for hash in hashes {
-            faces.push(self.face(hash).copied())?;
+            match self.face(hash) {
+                Some(face) => faces.push(Some(*face))?,
+                None => faces.push(None)?,
+            }
         }
         Ok(faces)
     }
