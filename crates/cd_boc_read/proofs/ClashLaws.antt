@@ -1,15 +1,11 @@
 -- Two different cells of one hash, by sorted keys, and in lists of faces.
-use Rattle.std.proofs.Common.{◌≡◌, ◌≢◌, ℕ, zero, suc, ◌+◌, ◌-◌, ◌<◌, ◌≤◌, Bool, true, false, not, List, [], ◌∷◌, ◌++◌, length, get_or, take, map, All, Contains, Option, Some, None, Less, Equal, Greater, Ordering, IsPermutation, IsSorted, nat_cmp, refl, sym, ap, subst, ◌∙◌, ◌⊎◌, inl, inr, IfNone, IfSome, ⊎_elim, arith}
+use Rattle.std.proofs.Common.{◌≡◌, ◌≢◌, ℕ, zero, suc, ◌+◌, ◌-◌, ◌<◌, ◌≤◌, Bool, true, false, not, List, [], ◌∷◌, length, get_or, map, All, Contains, Option, Some, None, IsPermutation, IsSorted, refl, sym, ap, subst, ◌∙◌, ◌⊎◌, inl, inr, IfNone, IfSome, ⊎_elim, arith}
 use Rattle.std.specs.Prelude.{if◌then◌else◌}
-use Rattle.std.specs.Ordering.{is_lt, ordering_then}
 use Rattle.std.specs.List.{filter, list_any, zip}
-use Rattle.std.specs.Cmp.{IsTotalOrder}
 use Rattle.std.proofs.lemmas.Bool.{true≢false, cases_lt, or_cases, or_left, or_right, and_parts, and_from, not-true}
-use Rattle.std.proofs.lemmas.Cmp.{then_total, on_total, nat_cmp_total}
-use Rattle.std.proofs.lemmas.List.{get_or-map, get_or_default, take_more, length-map, length-take-le}
+use Rattle.std.proofs.lemmas.List.{get_or-map, get_or_default, length-map}
 use Rattle.std.proofs.lemmas.List.Elements.{Contains-get_or}
-use Rattle.std.proofs.lemmas.List.Sorted.{sorted_far, Contains-permutation, All-permutation, all_adjacent_more}
-use Rattle.std.proofs.lemmas.List.MinMax.{ranks_by}
+use Rattle.std.proofs.lemmas.List.Sorted.{Contains-permutation, All-permutation, all_adjacent_more}
 use Rattle.std.proofs.lemmas.Slice.Zip.{length-zip, get_or-zip}
 use Rattle.cd_base.specs.declared.hash.Hash256.{Hash256}
 use Rattle.cd_cell.specs.declared.info.ChildInfo.{ChildInfo}
@@ -19,51 +15,13 @@ use Rattle.cd_cell.specs.Levels.{info_of_face, rep_of_face}
 use Rattle.cd_cell.specs.CellFaults.{no_info}
 use Rattle.cd_cell.specs.Equality.{same_hash, same_face, same_hash-Decides, same_face-Decides}
 use Rattle.cd_cell.specs.Bags.{no_face, face_at}
-use Rattle.cd_cell.specs.Export.{hash_cmp}
-use Rattle.cd_cell.proofs.ExportOrder.{hash_cmp-total}
 use Rattle.cd_cell.proofs.Subtrees.{Contains-first, Contains-later, Contains-cases, Contains-nil, Contains-map, Contains-mapped}
 use Rattle.cd_boc_read.specs.CellFaults.{least_hash, HashedFace, is_clash, clash_among, with_rep, clash_of}
 use Rattle.cd_boc_read.specs.Clashes.{Key, keys_from, Agree, AllAgree, no_key, key_at, IsFirstClash}
 use Rattle.cd_boc_read.proofs.LeastHashes.{IsUpTo, IsUpTo-both, least_hash-is}
+use Rattle.cd_boc_read.proofs.HashKeys.{keys_from-at, length-keys_from, key_cmp, hashes-sorted}
 
 -- ---- keys
-
-pub keys_from-at : (i : ℕ) (ks : List ChildInfo) (k n : ℕ) (d : Key) → i + k ≡ n → k < length ks → get_or (keys_from i ks) k d ≡ (rep_of_info (get_or ks k no_info), n)
-keys_from-at i [] k n d at in' = absurd (omega arith)
-keys_from-at i (x ∷ ks) zero n d at in' = ap (λ m. (rep_of_info x, m)) (let same : i ≡ n = omega arith in same)
-keys_from-at i (x ∷ ks) (suc k) n d at in' = keys_from-at (i + 1) ks k n d (omega arith) (omega arith)
-
-pub length-keys_from : (i : ℕ) (ks : List ChildInfo) → length (keys_from i ks) ≡ length ks
-length-keys_from i [] = refl
-length-keys_from i (x ∷ ks) = ap suc (length-keys_from (i + 1) ks)
-
-keys_from-append : (i n : ℕ) (ks : List ChildInfo) (k : ChildInfo) → i + length ks ≡ n → keys_from i (ks ++ k ∷ []) ≡ keys_from i ks ++ (rep_of_info k, n) ∷ []
-keys_from-append i n [] k at = ap (λ m. (rep_of_info k, m) ∷ []) (let same : i ≡ n = omega arith in same)
-keys_from-append i n (x ∷ ks) k at = ap (λ xs. (rep_of_info x, i) ∷ xs) (keys_from-append (i + 1) n ks k (omega arith))
-
--- the key of one more cell
-pub keys_from-more : (infos : List ChildInfo) (n : ℕ) (k : ChildInfo) → n < length infos → k ≡ get_or infos n k → keys_from 0 (take (n + 1) infos) ≡ keys_from 0 (take n infos) ++ (rep_of_info k, n) ∷ []
-keys_from-more infos n k in' is =
-    ap (keys_from 0) (take_more infos n k in')
-    ∙ ap (λ x. keys_from 0 (take n infos ++ x ∷ [])) (sym is)
-    ∙ keys_from-append 0 n (take n infos) k (let long : 0 + length (take n infos) ≡ n = omega (arith, length-take-le n infos (omega arith)) in long)
-
-abbrev pub key_cmp : Key → Key → Ordering
-key_cmp a b = ordering_then (hash_cmp a.0 b.0) (nat_cmp a.1 b.1)
-
-key_cmp-total : IsTotalOrder key_cmp
-key_cmp-total = then_total (on_total (λ (k : Key). k.0) hash_cmp-total) (on_total (λ (k : Key). k.1) nat_cmp_total)
-
-first-lower : (o p : Ordering) → is_lt (ordering_then o p) ≡ false → is_lt o ≡ false
-first-lower Less p e = absurd (true≢false e)
-first-lower Equal p e = refl
-first-lower Greater p e = refl
-
--- in sorted keys a later hash isn't below an earlier one
-hashes-sorted : (keys : List Key) → IsSorted key_cmp keys → (i j : ℕ) → i ≤ j → j < length keys → IsUpTo (key_at keys j).0 (key_at keys i).0
-hashes-sorted keys sorted i j before in' =
-    first-lower (hash_cmp (key_at keys j).0 (key_at keys i).0) (nat_cmp (key_at keys j).1 (key_at keys i).1)
-    (sorted_far (λ (x y : Key). is_lt (key_cmp x y)) (ranks_by key_cmp-total (λ (k : Key). k)) keys sorted i j no_key before in')
 
 module _ (faces : List FaceView) (keys : List Key) (sorted : IsSorted key_cmp keys) where
   -- neighbours that agree make all keys of one hash agree
@@ -72,8 +30,8 @@ module _ (faces : List FaceView) (keys : List Key) (sorted : IsSorted key_cmp ke
   agree-far high within all (suc m) i j at in' same =
       let p : ℕ = i + m in
       let next : p + 1 ≡ j = omega arith in
-      let low = hashes-sorted keys sorted i p (omega arith) (omega arith) in
-      let up = hashes-sorted keys sorted p j (omega arith) (omega arith) in
+      let low = hashes-sorted keys sorted i p no_key (omega arith) (omega arith) in
+      let up = hashes-sorted keys sorted p j no_key (omega arith) (omega arith) in
       let middle : (key_at keys i).0 ≡ (key_at keys p).0 = IsUpTo-both (key_at keys i).0 (key_at keys p).0 (subst (λ h. IsUpTo h (key_at keys p).0) (sym same) up) low in
       let here = agree-far high within all m i p refl (omega arith) middle in
       let step = all p no_key (omega arith) in
@@ -244,7 +202,7 @@ clash_of-found H fs infos found shown is = sym (is ∙ ap (λ ks. clash_among (z
 
 -- ---- sorted keys of faces
 
-module _ (fs : List FaceView) (infos : List ChildInfo) (counted : length infos ≡ length fs) (keys : List Key) (moved : IsPermutation (keys_from 0 infos) keys) where
+module _ (fs : List FaceView) (infos : List ChildInfo) (counted : length infos ≡ length fs) (keys : List Key) (moved : IsPermutation (keys_from rep_of_info 0 infos) keys) where
   abbrev hashed : List HashedFace
   hashed = zip (map rep_of_info infos) fs
 
@@ -261,8 +219,8 @@ module _ (fs : List FaceView) (infos : List ChildInfo) (counted : length infos �
   abbrev IsKey : Key → Type 0
   IsKey key = (key.1 < length fs) × Contains hashed (hashed_of key)
 
-  key-here : (k : ℕ) (d : Key) → k < length fs → get_or (keys_from 0 infos) k d ≡ (rep_of_info (get_or infos k no_info), k)
-  key-here k d in' = keys_from-at 0 infos k k d (omega arith) (omega (arith, counted))
+  key-here : (k : ℕ) (d : Key) → k < length fs → get_or (keys_from rep_of_info 0 infos) k d ≡ (rep_of_info (get_or infos k no_info), k)
+  key-here k d in' = keys_from-at rep_of_info no_info 0 infos k k d (omega arith) (omega (arith, counted))
 
   hashed-here : (k : ℕ) → k < length fs → get_or hashed k no_hashed ≡ (rep_of_info (get_or infos k no_info), face_at fs k)
   hashed-here k in' =
@@ -272,9 +230,9 @@ module _ (fs : List FaceView) (infos : List ChildInfo) (counted : length infos �
 
   keys-good : All IsKey keys
   keys-good =
-      All-permutation IsKey (keys_from 0 infos) keys moved
+      All-permutation IsKey (keys_from rep_of_info 0 infos) keys moved
       (λ k d in'.
-      let below : k < length fs = omega (arith, in', length-keys_from 0 infos, counted) in
+      let below : k < length fs = omega (arith, in', length-keys_from rep_of_info 0 infos, counted) in
       subst IsKey (sym (key-here k d below)) (below, subst (Contains hashed) (hashed-here k below) (Contains-get_or hashed k no_hashed (omega (arith, below, long-hashed)))))
 
   pub keys-within : All (λ (key : Key). key.1 < length fs) keys
@@ -285,8 +243,8 @@ module _ (fs : List FaceView) (infos : List ChildInfo) (counted : length infos �
       let number = h.0 in
       let below : number < length fs = omega (arith, h.1, long-hashed) in
       let key : Key = (rep_of_info (get_or infos number no_info), number) in
-      let first = subst (Contains (keys_from 0 infos)) (key-here number no_key below) (Contains-get_or (keys_from 0 infos) number no_key (omega (arith, below, length-keys_from 0 infos, counted))) in
-      let found = Contains-permutation (keys_from 0 infos) keys key moved first in
+      let first = subst (Contains (keys_from rep_of_info 0 infos)) (key-here number no_key below) (Contains-get_or (keys_from rep_of_info 0 infos) number no_key (omega (arith, below, length-keys_from rep_of_info 0 infos, counted))) in
+      let found = Contains-permutation (keys_from rep_of_info 0 infos) keys key moved first in
       let here : key_at keys found.0 ≡ key = get_or_default keys found.0 no_key key found.1 ∙ found.2 in
       (found.0, found.1, ap hashed_of here ∙ sym (hashed-here number below) ∙ get_or_default hashed number no_hashed f h.1 ∙ h.2)
 
@@ -310,7 +268,7 @@ module _ (fs : List FaceView) (infos : List ChildInfo) (counted : length infos �
         let p = place-of (x, c.f) c.in_f in
         let q = place-of (x, c.g) c.in_g in
         let from : (r : ℕ) → first.place ≤ r → r < length keys → (key_at keys r).0 ≡ x → IsUpTo x hash =
-        λ r above in' at. subst (IsUpTo x) first.left (subst (λ h. IsUpTo h (key_at keys first.place).0) at (hashes-sorted keys sorted first.place r above in'))
+        λ r above in' at. subst (IsUpTo x) first.left (subst (λ h. IsUpTo h (key_at keys first.place).0) at (hashes-sorted keys sorted first.place r no_key above in'))
         in
         ⊎_elim
         (λ early-p.

@@ -3,6 +3,7 @@ pub mod Loops
 pub mod StoredTexts
 pub mod CellLoop
 pub mod LeastHashes
+pub mod HashKeys
 pub mod ClashLaws
 pub mod StatedLaws
 pub mod FlagBits

@@ -2,18 +2,17 @@
 use Rattle.std.specs.Prelude.{◌≡◌, ◌≢◌, ℕ, ◌+◌, ◌<◌, List, [], ◌∷◌, length, slice_index_or}
 use Rattle.std.specs.List.{AllAdjacentBelow}
 use Rattle.cd_base.specs.declared.hash.Hash256.{Hash256}
-use Rattle.cd_cell.specs.declared.info.ChildInfo.{ChildInfo}
 use Rattle.cd_cell.specs.FaceView.{FaceView}
-use Rattle.cd_cell.specs.Infos.{no_hash, rep_of_info}
+use Rattle.cd_cell.specs.Infos.{no_hash}
 use Rattle.cd_cell.specs.Bags.{face_at}
 
 abbrev pub Key : Type 0
 Key = Hash256 × ℕ
 
--- the keys of cells, of which the first has this number
-abbrev pub keys_from : ℕ → List ChildInfo → List Key
-keys_from number [] = []
-keys_from number (k ∷ ks) = (rep_of_info k, number) ∷ keys_from (number + 1) ks
+-- items by their hashes, each with its number, of which the first is this one
+abbrev pub keys_from : {A : Type 0} → (A → Hash256) → ℕ → List A → List Key
+keys_from hash_of number [] = []
+keys_from hash_of number (x ∷ xs) = (hash_of x, number) ∷ keys_from hash_of (number + 1) xs
 
 -- two cells of one hash have one face
 abbrev pub Agree : List FaceView → Key → Key → Type 0

@@ -30,7 +30,7 @@ pub fn least_clash(
 /// The representation hash of each cell, with its number.
 fn keys_of(alloc: Global, infos: &[ChildInfo]) -> Result<Vec<(Hash256, u32)>, Memory>
     requires { length infos.now < 2 ^ 32 }
-    ensures { IfOk result (λ keys. keys.items ≡ keys_from 0 infos.now) }
+    ensures { IfOk result (λ keys. keys.items ≡ keys_from rep_of_info 0 infos.now) }
 {
     let mut keys = Vec::with_capacity(alloc, infos.len())?;
     for (number, info) in infos.iter().enumerate() {

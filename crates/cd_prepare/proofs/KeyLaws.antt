@@ -1,12 +1,12 @@
 -- Laws of keys: sorted, and one of those of equal rank.
-use Rattle.std.proofs.Common.{◌≡◌, Bool, false, ◌&&◌, nat_eq, ◌+◌, List, [], ◌∷◌, get_or, Contains, Less, Equal, Greater, Ordering, IsPermutation, IsSorted, nat_cmp, refl, sym, ap, ap₂, subst, ◌∙◌, ⊎_elim}
+use Rattle.std.proofs.Common.{◌≡◌, Bool, ◌&&◌, nat_eq, ◌+◌, List, [], ◌∷◌, get_or, Contains, Less, Equal, Greater, Ordering, IsPermutation, IsSorted, nat_cmp, refl, sym, ap, ap₂, subst, ◌∙◌, ⊎_elim}
 use Rattle.std.specs.Bool.{Decides}
-use Rattle.std.specs.Ordering.{is_lt, is_eq, ordering_then}
+use Rattle.std.specs.Ordering.{is_eq, ordering_then}
 use Rattle.std.specs.List.{dedup, AllByRecursion}
 use Rattle.std.specs.List.Sorted.{IsStrictlySortedBy}
 use Rattle.std.specs.Cmp.{IsTotalOrder, IsEquivalence, decided, unsigned_ties}
 use Rattle.std.specs.Cmp.Lexicographic.{texts_ties}
-use Rattle.std.proofs.lemmas.Bool.{true≢false, and_parts, and_from}
+use Rattle.std.proofs.lemmas.Bool.{and_parts, and_from}
 use Rattle.std.proofs.lemmas.Bool.Decides.{Decides-eqb}
 use Rattle.std.proofs.lemmas.Cmp.{then_total, on_total, on_equiv, nat_cmp_total}
 use Rattle.std.proofs.lemmas.List.Kept.{Any-dedup, Contains-from_dedup, IsStrictlySortedBy-dedup}
@@ -16,6 +16,7 @@ use Rattle.cd_cell.specs.Export.{hash_cmp}
 use Rattle.cd_cell.proofs.ExportOrder.{hash_cmp-total}
 use Rattle.cd_cell.proofs.Subtrees.{Contains-cases, Contains-nil}
 use Rattle.cd_cell.proofs.Distinct.{Rises, AllPairs-from_rises}
+use Rattle.cd_boc_read.proofs.HashKeys.{first-lower}
 use Rattle.cd_prepare.specs.declared.key.Rank.{Rank}
 use Rattle.cd_prepare.specs.declared.key.Key.{Key}
 use Rattle.cd_prepare.specs.Keys.{rank_cmp, AreSorted}
@@ -55,11 +56,6 @@ key-ties : (a b : Key) → same_key a b ≡ is_eq (by_rank a b)
 key-ties a b =
     ap₂ (λ x y. x && y) (unsigned_ties a.rank.lowness b.rank.lowness) (texts_ties a.rank.hash.0 b.rank.hash.0)
     ∙ both-ties (nat_cmp a.rank.lowness b.rank.lowness) (hash_cmp a.rank.hash b.rank.hash)
-
-first-lower : (o p : Ordering) → is_lt (ordering_then o p) ≡ false → is_lt o ≡ false
-first-lower Less p e = absurd (true≢false e)
-first-lower Equal p e = refl
-first-lower Greater p e = refl
 
 sorted-by_rank : (keys : List Key) → IsSorted key_cmp keys → IsSorted by_rank keys
 sorted-by_rank keys sorted = λ k d low high. first-lower (by_rank (get_or keys (k + 1) d) (get_or keys k d)) (nat_cmp (get_or keys (k + 1) d).number (get_or keys k d).number) (sorted k d low high)

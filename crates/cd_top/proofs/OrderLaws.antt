@@ -1,66 +1,41 @@
 -- Laws of the hashes of listed cells in order.
-use Rattle.std.proofs.Common.{◌≡◌, ◌≢◌, ℕ, zero, suc, ◌+◌, ◌<◌, ◌≤◌, Bool, true, false, List, [], ◌∷◌, ◌++◌, length, get_or, take, AllPairs, Contains, Less, Equal, Greater, Ordering, IsPermutation, IsSorted, Result, Ok, Err, refl, sym, ap, subst, ◌∙◌, ⊎_elim, arith}
-use Rattle.std.specs.Ordering.{nat_cmp, is_lt, ordering_index, ordering_reverse, ordering_then}
-use Rattle.std.specs.Cmp.{IsTotalOrder}
+use Rattle.std.proofs.Common.{◌≡◌, ◌≢◌, ℕ, ◌+◌, ◌<◌, ◌≤◌, Bool, true, false, List, length, get_or, take, AllPairs, Contains, Less, Equal, Greater, Ordering, IsPermutation, IsSorted, Result, Ok, Err, refl, sym, ap, subst, ◌∙◌, ⊎_elim, arith}
+use Rattle.std.specs.Ordering.{is_lt, ordering_index, ordering_reverse}
 use Rattle.std.specs.List.{IsDistinct}
 use Rattle.std.specs.List.Sorted.{IsSortedBy, IsNonDecreasingBy, IsPartitionPoint, IsSearchInRange, IsBinarySearchResult}
 use Rattle.std.specs.Prelude.{MatchOption}
 use Rattle.std.specs.Result.{result_ok}
 use Rattle.std.proofs.lemmas.Bool.{true≢false, cases_lt}
-use Rattle.std.proofs.lemmas.Cmp.{tied_itself, then_total, on_total, nat_cmp_total}
-use Rattle.std.proofs.lemmas.List.{take_more, take_all, length-take-le}
-use Rattle.std.proofs.lemmas.List.Sorted.{length_permutation, Contains-permutation, IsPermutation-sym, sorted_far, searchable_from_sorted}
-use Rattle.std.proofs.lemmas.List.MinMax.{ranks_by}
+use Rattle.std.proofs.lemmas.Cmp.{tied_itself}
+use Rattle.std.proofs.lemmas.List.{take_all}
+use Rattle.std.proofs.lemmas.List.Sorted.{length_permutation, Contains-permutation, IsPermutation-sym, searchable_from_sorted}
 use Rattle.std.proofs.lemmas.Map.Keys.{IsDistinct-from_apart, IsDistinct-IsPermutation, apart_from_distinct}
 use Rattle.cd_base.specs.declared.hash.Hash256.{Hash256}
 use Rattle.cd_cell.specs.declared.new_cell.NewCell.{NewCell}
 use Rattle.cd_cell.specs.Equality.{same_hash, same_hash-Decides}
 use Rattle.cd_cell.specs.Infos.{no_hash}
 use Rattle.cd_cell.specs.Export.{hash_cmp}
-use Rattle.cd_cell.specs.Listings.{listed_at}
+use Rattle.cd_cell.specs.Listings.{no_cell, listed_at}
 use Rattle.cd_cell.proofs.ExportOrder.{hash_cmp-total, hash_cmp-ties}
-use Rattle.cd_top.specs.Order.{placed_from, IsOrder, hash_in}
-
--- ---- listed cells with their places
-
-pub placed_from-at : (i : ℕ) (cs : List NewCell) (k n : ℕ) (d : Hash256 × ℕ) → i + k ≡ n → k < length cs → get_or (placed_from i cs) k d ≡ ((listed_at cs k).hash, n)
-placed_from-at i [] k n d at in' = absurd (omega arith)
-placed_from-at i (c ∷ cs) zero n d at in' = ap (λ m. (c.hash, m)) (let same : i ≡ n = omega arith in same)
-placed_from-at i (c ∷ cs) (suc k) n d at in' = placed_from-at (i + 1) cs k n d (omega arith) (omega arith)
-
-pub length-placed_from : (i : ℕ) (cs : List NewCell) → length (placed_from i cs) ≡ length cs
-length-placed_from i [] = refl
-length-placed_from i (c ∷ cs) = ap suc (length-placed_from (i + 1) cs)
-
-placed_from-append : (i n : ℕ) (cs : List NewCell) (c : NewCell) → i + length cs ≡ n → placed_from i (cs ++ c ∷ []) ≡ placed_from i cs ++ (c.hash, n) ∷ []
-placed_from-append i n [] c at = ap (λ m. (c.hash, m) ∷ []) (let same : i ≡ n = omega arith in same)
-placed_from-append i n (b ∷ cs) c at = ap (λ xs. (b.hash, i) ∷ xs) (placed_from-append (i + 1) n cs c (omega arith))
-
--- one more cell
-pub placed_from-more : (cells : List NewCell) (n : ℕ) (c : NewCell) → n < length cells → c ≡ get_or cells n c → placed_from 0 (take (n + 1) cells) ≡ placed_from 0 (take n cells) ++ (c.hash, n) ∷ []
-placed_from-more cells n c in' is =
-    ap (placed_from 0) (take_more cells n c in')
-    ∙ ap (λ x. placed_from 0 (take n cells ++ x ∷ [])) (sym is)
-    ∙ placed_from-append 0 n (take n cells) c (let long : 0 + length (take n cells) ≡ n = omega (arith, length-take-le n cells (omega arith)) in long)
+use Rattle.cd_boc_read.specs.Clashes.{Key, keys_from}
+use Rattle.cd_boc_read.proofs.HashKeys.{keys_from-at, length-keys_from, key_cmp, hashes-sorted}
+use Rattle.cd_top.specs.Order.{IsOrder, hash_in}
 
 -- ---- in order
 
-abbrev pub placed_cmp : Hash256 × ℕ → Hash256 × ℕ → Ordering
-placed_cmp a b = ordering_then (hash_cmp a.0 b.0) (nat_cmp a.1 b.1)
-
-placed_cmp-total : IsTotalOrder placed_cmp
-placed_cmp-total = then_total (on_total (λ (p : Hash256 × ℕ). p.0) hash_cmp-total) (on_total (λ (p : Hash256 × ℕ). p.1) nat_cmp_total)
+abbrev pub new_hash : NewCell → Hash256
+new_hash c = c.hash
 
 -- no hash is listed twice
 abbrev pub HaveOwnHashes : List NewCell → Type 0
 HaveOwnHashes cells = (i j : ℕ) → i < length cells → j < length cells → (listed_at cells i).hash ≡ (listed_at cells j).hash → i ≡ j
 
 -- cells of different hashes, sorted by their hashes and places
-pub sorted-order : (cells : List NewCell) (order : List (Hash256 × ℕ)) → HaveOwnHashes cells
-    → IsPermutation (placed_from 0 cells) order → IsSorted placed_cmp order → IsOrder cells order
+pub sorted-order : (cells : List NewCell) (order : List Key) → HaveOwnHashes cells
+    → IsPermutation (keys_from new_hash 0 cells) order → IsSorted key_cmp order → IsOrder cells order
 sorted-order cells order distinct moved sorted = record { permuted = moved; rising = rising }
   where
-    same : Hash256 × ℕ → Hash256 × ℕ → Bool
+    same : Key → Key → Bool
     same a b = same_hash a.0 b.0
 
     same-flips : (a b : Hash256) → same_hash a b ≡ same_hash b a
@@ -72,25 +47,25 @@ sorted-order cells order distinct moved sorted = record { permuted = moved; risi
         by true false e f = absurd (true≢false (sym ((same_hash-Decides b a).1 (sym ((same_hash-Decides a b).0 e))) ∙ f))
         by false true e f = absurd (true≢false (sym ((same_hash-Decides a b).1 (sym ((same_hash-Decides b a).0 f))) ∙ e))
 
-    apart-listed : (i j : ℕ) (d : Hash256 × ℕ) → i < j → j < length (placed_from 0 cells) → same_hash (get_or (placed_from 0 cells) i d).0 (get_or (placed_from 0 cells) j d).0 ≡ false
+    apart-listed : (i j : ℕ) (d : Key) → i < j → j < length (keys_from new_hash 0 cells) → same_hash (get_or (keys_from new_hash 0 cells) i d).0 (get_or (keys_from new_hash 0 cells) j d).0 ≡ false
     apart-listed i j d before in' =
-        let long = length-placed_from 0 cells in
+        let long = length-keys_from new_hash 0 cells in
         let in-i : i < length cells = omega arith in
         let in-j : j < length cells = omega arith in
-        let hash-i = ap (λ (p : Hash256 × ℕ). p.0) (placed_from-at 0 cells i i d (omega arith) in-i) in
-        let hash-j = ap (λ (p : Hash256 × ℕ). p.0) (placed_from-at 0 cells j j d (omega arith) in-j) in
-        by (same_hash (get_or (placed_from 0 cells) i d).0 (get_or (placed_from 0 cells) j d).0) refl in-i in-j hash-i hash-j
+        let hash-i = ap (λ (p : Key). p.0) (keys_from-at new_hash no_cell 0 cells i i d (omega arith) in-i) in
+        let hash-j = ap (λ (p : Key). p.0) (keys_from-at new_hash no_cell 0 cells j j d (omega arith) in-j) in
+        by (same_hash (get_or (keys_from new_hash 0 cells) i d).0 (get_or (keys_from new_hash 0 cells) j d).0) refl in-i in-j hash-i hash-j
       where
-        by : (b : Bool) → same_hash (get_or (placed_from 0 cells) i d).0 (get_or (placed_from 0 cells) j d).0 ≡ b → i < length cells → j < length cells
-            → (get_or (placed_from 0 cells) i d).0 ≡ (listed_at cells i).hash → (get_or (placed_from 0 cells) j d).0 ≡ (listed_at cells j).hash → b ≡ false
+        by : (b : Bool) → same_hash (get_or (keys_from new_hash 0 cells) i d).0 (get_or (keys_from new_hash 0 cells) j d).0 ≡ b → i < length cells → j < length cells
+            → (get_or (keys_from new_hash 0 cells) i d).0 ≡ (listed_at cells i).hash → (get_or (keys_from new_hash 0 cells) j d).0 ≡ (listed_at cells j).hash → b ≡ false
         by false e in-i in-j hash-i hash-j = refl
         by true e in-i in-j hash-i hash-j =
-            let one : i ≡ j = distinct i j in-i in-j (sym hash-i ∙ (same_hash-Decides (get_or (placed_from 0 cells) i d).0 (get_or (placed_from 0 cells) j d).0).0 e ∙ hash-j) in absurd (omega arith)
+            let one : i ≡ j = distinct i j in-i in-j (sym hash-i ∙ (same_hash-Decides (get_or (keys_from new_hash 0 cells) i d).0 (get_or (keys_from new_hash 0 cells) j d).0).0 e ∙ hash-j) in absurd (omega arith)
 
     distinct-order : IsDistinct (λ a b. same_hash a.0 b.0) order
     distinct-order =
-        IsDistinct-IsPermutation (λ a b. same_hash a.0 b.0) (λ a b. same-flips a.0 b.0) (placed_from 0 cells) order moved
-        (IsDistinct-from_apart (λ a b. same_hash a.0 b.0) (placed_from 0 cells) apart-listed)
+        IsDistinct-IsPermutation (λ a b. same_hash a.0 b.0) (λ a b. same-flips a.0 b.0) (keys_from new_hash 0 cells) order moved
+        (IsDistinct-from_apart (λ a b. same_hash a.0 b.0) (keys_from new_hash 0 cells) apart-listed)
 
     rising : AllPairs (λ a b. hash_cmp a.0 b.0 ≡ Less) order
     rising i j d before in' = by (hash_cmp a b) refl
@@ -106,30 +81,28 @@ sorted-order cells order distinct moved sorted = record { permuted = moved; risi
         by Equal e = absurd (true≢false (sym ((same_hash-Decides (get_or order i d).0 (get_or order j d).0).1 (hash_cmp-ties (get_or order i d).0 (get_or order j d).0 e)) ∙ apart_from_distinct (λ x y. same_hash x.0 y.0) order i j d distinct-order before in'))
         by Greater e =
             let back : hash_cmp (get_or order j d).0 (get_or order i d).0 ≡ Less = hash_cmp-total.antisymm (get_or order j d).0 (get_or order i d).0 ∙ ap ordering_reverse e in
-            let less : placed_cmp (get_or order j d) (get_or order i d) ≡ Less = ap (λ o. ordering_then o (nat_cmp (get_or order j d).1 (get_or order i d).1)) back in
-            let low = sorted_far (λ x y. is_lt (placed_cmp x y)) (ranks_by placed_cmp-total (λ p. p)) order sorted i j d (omega arith) in' in
-            absurd (true≢false (sym (ap is_lt less) ∙ low))
+            absurd (true≢false (sym (ap is_lt back) ∙ hashes-sorted order sorted i j d (omega arith) in'))
 
 -- the first cell's, and so on
-pub all-placed : (cells : List NewCell) (order made : List (Hash256 × ℕ)) (n : ℕ) → length cells ≤ n → made ≡ placed_from 0 (take n cells) → IsPermutation made order → IsPermutation (placed_from 0 cells) order
-all-placed cells order made n end is moved = subst (λ xs. IsPermutation xs order) (is ∙ ap (placed_from 0) (take_all n cells end)) moved
+pub all-placed : (cells : List NewCell) (order made : List Key) (n : ℕ) → length cells ≤ n → made ≡ keys_from new_hash 0 (take n cells) → IsPermutation made order → IsPermutation (keys_from new_hash 0 cells) order
+all-placed cells order made n end is moved = subst (λ xs. IsPermutation xs order) (is ∙ ap (keys_from new_hash 0) (take_all n cells end)) moved
 
-module _ (cells : List NewCell) (order : List (Hash256 × ℕ)) (is : IsOrder cells order) where
+module _ (cells : List NewCell) (order : List Key) (is : IsOrder cells order) where
   pub length-order : length order ≡ length cells
-  length-order = length_permutation (placed_from 0 cells) order is.permuted ∙ length-placed_from 0 cells
+  length-order = length_permutation (keys_from new_hash 0 cells) order is.permuted ∙ length-keys_from new_hash 0 cells
 
   -- an element is a listed cell's hash with its place
-  pub placed-in : (p : Hash256 × ℕ) → Contains order p → (p.1 < length cells) × ((listed_at cells p.1).hash ≡ p.0)
+  pub placed-in : (p : Key) → Contains order p → (p.1 < length cells) × ((listed_at cells p.1).hash ≡ p.0)
   placed-in p in' =
-      let old = Contains-permutation order (placed_from 0 cells) p (IsPermutation-sym (placed_from 0 cells) order is.permuted) in' in
-      let inside : old.0 < length cells = omega (arith, old.1, length-placed_from 0 cells) in
-      let at : p ≡ ((listed_at cells old.0).hash, old.0) = sym old.2 ∙ placed_from-at 0 cells old.0 old.0 p (omega arith) inside in
-      let place : p.1 ≡ old.0 = ap (λ (q : Hash256 × ℕ). q.1) at in
-      (omega (arith, inside, place), ap (λ n. (listed_at cells n).hash) place ∙ sym (ap (λ (q : Hash256 × ℕ). q.0) at))
+      let old = Contains-permutation order (keys_from new_hash 0 cells) p (IsPermutation-sym (keys_from new_hash 0 cells) order is.permuted) in' in
+      let inside : old.0 < length cells = omega (arith, old.1, length-keys_from new_hash 0 cells) in
+      let at : p ≡ ((listed_at cells old.0).hash, old.0) = sym old.2 ∙ keys_from-at new_hash no_cell 0 cells old.0 old.0 p (omega arith) inside in
+      let place : p.1 ≡ old.0 = ap (λ (q : Key). q.1) at in
+      (omega (arith, inside, place), ap (λ n. (listed_at cells n).hash) place ∙ sym (ap (λ (q : Key). q.0) at))
 
 -- ---- searched
 
-module _ (order : List (Hash256 × ℕ)) (rising : AllPairs (λ a b. hash_cmp a.0 b.0 ≡ Less) order) where
+module _ (order : List Key) (rising : AllPairs (λ a b. hash_cmp a.0 b.0 ≡ Less) order) where
   -- the answers of a search rise
   pub searchable : (hash : Hash256) → IsNonDecreasingBy (λ y. ordering_index (hash_cmp y.0 hash)) order
   searchable hash = searchable_from_sorted hash_cmp-total (λ p. p.0) order hash sorted

@@ -1,5 +1,5 @@
 -- Listed cells in the order of their hashes, and the references to each.
-use Rattle.std.specs.Prelude.{◌≡◌, ℕ, ◌+◌, ◌<◌, Bool, List, [], ◌∷◌, length, slice_index, slice_index_or, if◌then◌else◌, AllPairs}
+use Rattle.std.specs.Prelude.{◌≡◌, ℕ, ◌+◌, ◌<◌, Bool, List, length, slice_index, if◌then◌else◌, AllPairs}
 use Rattle.std.specs.List.{count_by, sum_by}
 use Rattle.std.specs.List.Sorted.{IsPermutation}
 use Rattle.std.specs.Str.{bytes_eq}
@@ -8,24 +8,20 @@ use Rattle.cd_base.specs.declared.hash.Hash256.{Hash256}
 use Rattle.cd_cell.specs.declared.info.ChildInfo.{ChildInfo}
 use Rattle.cd_cell.specs.declared.new_cell.NewCell.{NewCell}
 use Rattle.cd_cell.specs.FaceView.{FaceView}
-use Rattle.cd_cell.specs.Infos.{no_hash, rep_of_info}
+use Rattle.cd_cell.specs.Infos.{rep_of_info}
 use Rattle.cd_cell.specs.Export.{hash_cmp}
 use Rattle.cd_cell.specs.Listings.{listed_at}
 use Rattle.cd_record.specs.RecordText.{record_text}
+use Rattle.cd_boc_read.specs.Clashes.{Key, keys_from, key_at}
 
--- the hash of each listed cell, with the cell's place from a number on
-abbrev pub placed_from : ℕ → List NewCell → List (Hash256 × ℕ)
-placed_from k [] = []
-placed_from k (c ∷ cs) = (c.hash, k) ∷ placed_from (k + 1) cs
-
--- the same in the order of the hashes, which all differ
-pub record IsOrder (cells : List NewCell) (order : List (Hash256 × ℕ)) : Type 0 where
-  pub permuted : IsPermutation (placed_from 0 cells) order
+-- the hash of each listed cell with the cell's place, in the order of the hashes, which all differ
+pub record IsOrder (cells : List NewCell) (order : List Key) : Type 0 where
+  pub permuted : IsPermutation (keys_from (λ c. c.hash) 0 cells) order
   pub rising : AllPairs (λ a b. hash_cmp a.0 b.0 ≡ Less) order
 
 -- a hash of the order
-abbrev pub hash_in : List (Hash256 × ℕ) → ℕ → Hash256
-hash_in order k = (slice_index_or order k (no_hash, 0)).0
+abbrev pub hash_in : List Key → ℕ → Hash256
+hash_in order k = (key_at order k).0
 
 -- whether a child has this hash
 abbrev pub has_bytes : List ℕ → ChildInfo → Bool
@@ -40,10 +36,10 @@ abbrev pub references : ChildInfo → List NewCell → Hash256 → ℕ
 references root cells hash = (if has_bytes hash.0 root then 1 else 0) + sum_by (λ c. places_in hash.0 c.face) cells
 
 -- the references to each cell of the order
-pub record AreCounts (root : ChildInfo) (cells : List NewCell) (order : List (Hash256 × ℕ)) (counts : List ℕ) : Type 0 where
+pub record AreCounts (root : ChildInfo) (cells : List NewCell) (order : List Key) (counts : List ℕ) : Type 0 where
   pub long : length counts ≡ length order
   pub counted : (k : ℕ) → k < length order → slice_index counts k ≡ references root cells (hash_in order k)
 
 -- the record of a cell of the order, under its hash
-abbrev pub record_put : ChildInfo → List NewCell → Hash256 × ℕ → List ℕ × List ℕ
+abbrev pub record_put : ChildInfo → List NewCell → Key → List ℕ × List ℕ
 record_put root cells placed = (let hash = placed.0 in hash.0, record_text (references root cells placed.0) (listed_at cells placed.1).face)

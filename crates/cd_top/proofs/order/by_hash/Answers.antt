@@ -1,13 +1,14 @@
 use Rattle.std.proofs.Common.{◌∷◌, ◌++◌, [], ap, sym, subst, ◌∙◌}
+use Rattle.cd_boc_read.proofs.HashKeys.{keys_from-more}
 use Rattle.cd_top.specs.Order.{IsOrder}
-use Rattle.cd_top.proofs.OrderLaws.{HaveOwnHashes, placed_from-more, all-placed, sorted-order}
+use Rattle.cd_top.proofs.OrderLaws.{HaveOwnHashes, new_hash, all-placed, sorted-order}
 use Rattle.cd_top.proofs.order.by_hash.Goals as goal
 
 pub loop-place-preserved : goal.loop-place-preserved
 loop-place-preserved g c =
     c.in_ok-push.ensures.items
     ∙ ap (λ xs. xs ++ (c.index-cells-place.result.hash, c.loop-place.place) ∷ []) c.loop-place.invariant
-    ∙ sym (placed_from-more c.as_slice-cells.result.now c.loop-place.place c.index-cells-place.result c.loop-place-test.true c.index-cells-place.is)
+    ∙ sym (keys_from-more new_hash c.as_slice-cells.result.now c.loop-place.place c.index-cells-place.result c.loop-place-test.true c.index-cells-place.is)
 
 pub returns : goal.returns
 returns g c =
