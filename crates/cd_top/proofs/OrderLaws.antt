@@ -2,13 +2,14 @@
 use Rattle.std.proofs.Common.{◌≡◌, ◌≢◌, ℕ, ◌+◌, ◌<◌, ◌≤◌, Bool, true, false, List, length, get_or, take, AllPairs, Contains, Less, Equal, Greater, Ordering, IsPermutation, IsSorted, Result, Ok, Err, refl, sym, ap, subst, ◌∙◌, ⊎_elim, arith}
 use Rattle.std.specs.Ordering.{is_lt, ordering_index, ordering_reverse}
 use Rattle.std.specs.List.{IsDistinct}
+use Rattle.std.specs.Cmp.{decided}
 use Rattle.std.specs.List.Sorted.{IsSortedBy, IsNonDecreasingBy, IsPartitionPoint, IsSearchInRange, IsBinarySearchResult}
 use Rattle.std.specs.Prelude.{MatchOption}
 use Rattle.std.specs.Result.{result_ok}
 use Rattle.std.proofs.lemmas.Bool.{true≢false, cases_lt}
 use Rattle.std.proofs.lemmas.Cmp.{tied_itself}
 use Rattle.std.proofs.lemmas.List.{take_all}
-use Rattle.std.proofs.lemmas.List.Sorted.{length_permutation, Contains-permutation, IsPermutation-sym, searchable_from_sorted}
+use Rattle.std.proofs.lemmas.List.Sorted.{Contains-permutation, IsPermutation-sym, searchable_from_sorted}
 use Rattle.std.proofs.lemmas.Map.Keys.{IsDistinct-from_apart, IsDistinct-IsPermutation, apart_from_distinct}
 use Rattle.cd_base.specs.declared.hash.Hash256.{Hash256}
 use Rattle.cd_cell.specs.declared.new_cell.NewCell.{NewCell}
@@ -20,8 +21,6 @@ use Rattle.cd_cell.proofs.ExportOrder.{hash_cmp-total, hash_cmp-ties}
 use Rattle.cd_boc_read.specs.Clashes.{Key, keys_from}
 use Rattle.cd_boc_read.proofs.HashKeys.{keys_from-at, length-keys_from, key_cmp, hashes-sorted}
 use Rattle.cd_top.specs.Order.{IsOrder, hash_in}
-
--- ---- in order
 
 abbrev pub new_hash : NewCell → Hash256
 new_hash c = c.hash
@@ -35,18 +34,6 @@ pub sorted-order : (cells : List NewCell) (order : List Key) → HaveOwnHashes c
     → IsPermutation (keys_from new_hash 0 cells) order → IsSorted key_cmp order → IsOrder cells order
 sorted-order cells order distinct moved sorted = record { permuted = moved; rising = rising }
   where
-    same : Key → Key → Bool
-    same a b = same_hash a.0 b.0
-
-    same-flips : (a b : Hash256) → same_hash a b ≡ same_hash b a
-    same-flips a b = by (same_hash a b) (same_hash b a) refl refl
-      where
-        by : (p q : Bool) → same_hash a b ≡ p → same_hash b a ≡ q → p ≡ q
-        by true true e f = refl
-        by false false e f = refl
-        by true false e f = absurd (true≢false (sym ((same_hash-Decides b a).1 (sym ((same_hash-Decides a b).0 e))) ∙ f))
-        by false true e f = absurd (true≢false (sym ((same_hash-Decides a b).1 (sym ((same_hash-Decides b a).0 f))) ∙ e))
-
     apart-listed : (i j : ℕ) (d : Key) → i < j → j < length (keys_from new_hash 0 cells) → same_hash (get_or (keys_from new_hash 0 cells) i d).0 (get_or (keys_from new_hash 0 cells) j d).0 ≡ false
     apart-listed i j d before in' =
         let long = length-keys_from new_hash 0 cells in
@@ -64,18 +51,12 @@ sorted-order cells order distinct moved sorted = record { permuted = moved; risi
 
     distinct-order : IsDistinct (λ a b. same_hash a.0 b.0) order
     distinct-order =
-        IsDistinct-IsPermutation (λ a b. same_hash a.0 b.0) (λ a b. same-flips a.0 b.0) (keys_from new_hash 0 cells) order moved
+        IsDistinct-IsPermutation (λ a b. same_hash a.0 b.0) (λ a b. (decided same_hash same_hash-Decides).symm a.0 b.0) (keys_from new_hash 0 cells) order moved
         (IsDistinct-from_apart (λ a b. same_hash a.0 b.0) (keys_from new_hash 0 cells) apart-listed)
 
     rising : AllPairs (λ a b. hash_cmp a.0 b.0 ≡ Less) order
-    rising i j d before in' = by (hash_cmp a b) refl
+    rising i j d before in' = by (hash_cmp (get_or order i d).0 (get_or order j d).0) refl
       where
-        a : Hash256
-        a = (get_or order i d).0
-
-        b : Hash256
-        b = (get_or order j d).0
-
         by : (o : Ordering) → hash_cmp (get_or order i d).0 (get_or order j d).0 ≡ o → o ≡ Less
         by Less e = refl
         by Equal e = absurd (true≢false (sym ((same_hash-Decides (get_or order i d).0 (get_or order j d).0).1 (hash_cmp-ties (get_or order i d).0 (get_or order j d).0 e)) ∙ apart_from_distinct (λ x y. same_hash x.0 y.0) order i j d distinct-order before in'))
@@ -88,9 +69,6 @@ pub all-placed : (cells : List NewCell) (order made : List Key) (n : ℕ) → le
 all-placed cells order made n end is moved = subst (λ xs. IsPermutation xs order) (is ∙ ap (keys_from new_hash 0) (take_all n cells end)) moved
 
 module _ (cells : List NewCell) (order : List Key) (is : IsOrder cells order) where
-  pub length-order : length order ≡ length cells
-  length-order = length_permutation (keys_from new_hash 0 cells) order is.permuted ∙ length-keys_from new_hash 0 cells
-
   -- an element is a listed cell's hash with its place
   pub placed-in : (p : Key) → Contains order p → (p.1 < length cells) × ((listed_at cells p.1).hash ≡ p.0)
   placed-in p in' =
