@@ -59,15 +59,15 @@ fn unknown<H: Hash32>(bag: &Bag<H>, visits: &[Visit], known: &Known) -> Option<H
 }
 
 /// What was worked out of an entry at a depth.
-fn info_at(walk: &Walk, infos: &[ChildInfo], node: Node) -> ChildInfo
+fn info_at<'a>(walk: &Walk, infos: &'a [ChildInfo], node: Node) -> &'a ChildInfo
     requires depth { node.depth ≤ 3 }
     requires entry { 4 * node.entry + 3 < length walk.now.numbers.items }
     requires counted { length infos.now ≡ length walk.now.visits.items }
     requires visited { IsTrue (list_any (same_node node) (nodes_of walk.now.visits.items)) }
-    ensures { (k : ℕ) × (k < length walk.now.visits.items) × ((visit_at walk.now.visits.items k).node ≡ node) × (result ≡ slice_index_or infos.now k no_info) }
+    ensures { (k : ℕ) × (k < length walk.now.visits.items) × ((visit_at walk.now.visits.items k).node ≡ node) × (result.now ≡ slice_index_or infos.now k no_info) }
 {
     match walk.number(node) {
-        Some(number) => infos[number],
+        Some(number) => &infos[number],
         None => unreachable!(),
     }
 }
@@ -87,21 +87,17 @@ fn new_face<H: Hash32>(
     requires grafted { AreGrafted H.digest_of known.now.infos bag.now.cells bag.now.refs walk.now.visits.items (spot visit.now.node + 1) infos.now }
     ensures { result ≡ grafted_face H.digest_of known.now.infos (bag_cell bag.now.cells bag.now.refs visit.now.node.entry) visit.now.node.depth }
 {
-    let face = bag.face(visit.node.entry);
-    let depth = below(face, visit.node.depth);
-    let children = bag.children(visit.node.entry);
-    let mut kids = [*shown_info(bag, visit); 4];
-    for (place, child) in children.iter().enumerate() {
-        kids[place] = info_at(
-            walk,
-            infos,
-            Node {
-                entry: *child,
-                depth,
-            },
-        );
+    let shown = bag.face(visit.node.entry);
+    let depth = below(shown, visit.node.depth);
+    let mut face = Face::new(shown.exotic(), *shown.bits(), &[]);
+    for child in bag.children(visit.node.entry) {
+        let node = Node {
+            entry: *child,
+            depth,
+        };
+        face.push(info_at(walk, infos, node));
     }
-    Face::new(face.exotic(), *face.bits(), &kids[..children.len()])
+    face
 }
 
 /// What the graft of a visit shows, whose children have been worked out. It is hashed only where a child changed.
@@ -206,7 +202,7 @@ fn grafted_of<H: Hash32>(
     ensures infos { IfOk result (λ grafted. grafted.infos ≡ map (info_of_face H.digest_of) grafted.cells) }
 {
     let infos = new_infos(alloc, bag, walk, start, known)?;
-    let root = info_at(walk, infos.as_slice(), start.node);
+    let root = *info_at(walk, infos.as_slice(), start.node);
     let own = own_of(alloc, bag, walk, infos.as_slice(), start, known)?;
     Ok(Grafted {
         root,
