@@ -164,6 +164,15 @@ module _ (H : List ℕ → Hash256) (known : List ChildInfo) (cells : List FaceV
       in
       joined flag same (sym each) ∙ sym (grafted_face-children H known t d)
 
+  -- a face stays as it is exactly where its kids do
+  pub face-kept : (t : Tree) (numbered : List ℕ) (d depth : ℕ) (face : FaceView) → face_of H t ≡ face → children t ≡ map (bag_cell cells refs) numbered → depth ≡ kid_level face d → map (λ r. grafted_info H known (bag_cell cells refs r) depth) numbered ≡ face.kids → grafted_face H known t d ≡ face
+  face-kept t numbered d depth face is are level same = sym (face-made t numbered d depth face.exotic face.bits face.kids are (level ∙ ap (λ f. kid_level f d) (sym is)) (sym same) (ap (λ f. f.exotic) (sym is)) (ap (λ f. f.bits) (sym is)))
+
+  pub kids-kept : (t : Tree) (numbered : List ℕ) (d depth : ℕ) (face : FaceView) → face_of H t ≡ face → children t ≡ map (bag_cell cells refs) numbered → depth ≡ kid_level face d → grafted_face H known t d ≡ face → map (λ r. grafted_info H known (bag_cell cells refs r) depth) numbered ≡ face.kids
+  kids-kept t numbered d depth face is are level same =
+      let kids = map (λ r. grafted_info H known (bag_cell cells refs r) depth) numbered in
+      ap (λ (f : FaceView). f.kids) (face-made t numbered d depth face.exotic face.bits kids are (level ∙ ap (λ f. kid_level f d) (sym is)) refl (ap (λ f. f.exotic) (sym is)) (ap (λ f. f.bits) (sym is)) ∙ same)
+
   -- one visit more
   module _ (infos : List ChildInfo) (left : ℕ) (numbered : IsNumbered numbers visits) (done : AreGrafted H known cells refs visits (left + 1) infos) where
     pub grafted-skip : get_or numbers left None ≡ None → AreGrafted H known cells refs visits left infos

@@ -1,6 +1,6 @@
 -- Infos found by their hashes at level 3.
-use Rattle.std.proofs.Common.{◌≡◌, ℕ, ◌<◌, List, length, get_or, map, Contains, Bool, true, false, true≢false, ◌&&◌, sym, subst, ◌∙◌, ⊎_elim}
-use Rattle.std.specs.Prelude.{nat_eq}
+use Rattle.std.proofs.Common.{◌≡◌, ℕ, ◌<◌, List, length, get_or, map, Contains, Bool, true, false, true≢false, ◌&&◌, refl, ap, sym, subst, ◌∙◌, ⊎_elim}
+use Rattle.std.specs.Prelude.{nat_eq, not}
 use Rattle.std.specs.List.{list_any}
 use Rattle.std.specs.Cmp.Lexicographic.{pointwise}
 use Rattle.std.proofs.lemmas.List.{get_or_default}
@@ -32,6 +32,21 @@ regroup false b c e = e
 -- the test as it is derived
 pub same_info-derived : (a b : ChildInfo) → (nat_eq a.mask b.mask && (pointwise same_hash a.hashes b.hashes && pointwise nat_eq a.depths b.depths)) ≡ true → same_info a b ≡ true
 same_info-derived a b e = regroup (nat_eq a.mask b.mask) (pointwise same_hash a.hashes b.hashes) (pointwise nat_eq a.depths b.depths) e
+
+regroup-back : (a b c : Bool) → ((a && b) && c) ≡ true → (a && (b && c)) ≡ true
+regroup-back true b c e = e
+regroup-back false b c e = e
+
+opposite : (b : Bool) → false ≡ not b → b ≡ true
+opposite true e = refl
+opposite false e = absurd (true≢false (sym e))
+
+-- what the derived `!=` tells
+pub infos-equal : (a b : ChildInfo) → false ≡ not (nat_eq a.mask b.mask && (pointwise same_hash a.hashes b.hashes && pointwise nat_eq a.depths b.depths)) → a ≡ b
+infos-equal a b e = (same_info-Decides a b).0 (same_info-derived a b (opposite (nat_eq a.mask b.mask && (pointwise same_hash a.hashes b.hashes && pointwise nat_eq a.depths b.depths)) e))
+
+pub infos-apart : (a b : ChildInfo) → true ≡ not (nat_eq a.mask b.mask && (pointwise same_hash a.hashes b.hashes && pointwise nat_eq a.depths b.depths)) → a ≡ b → ⊥
+infos-apart a b e same = true≢false (e ∙ ap not (regroup-back (nat_eq a.mask b.mask) (pointwise same_hash a.hashes b.hashes) (pointwise nat_eq a.depths b.depths) ((same_info-Decides a b).1 same)))
 
 pub no_face_rep : (H : List ℕ → Hash256) (cells : List FaceView) (infos : List ChildInfo) (face : FaceView) (info : ChildInfo) → info ≡ info_of_face H face → infos ≡ map (info_of_face H) cells → list_any (same_hash (rep_of_info info)) (map rep_of_info infos) ≡ false → list_any (same_face face) cells ≡ false
 no_face_rep H cells infos face info is are none =

@@ -121,6 +121,14 @@ tie Less e = cc
 tie Equal e = refl
 tie Greater e = cc
 
+pub IsIndex-kept : (old new : Index) → new.places.entries ≡ old.places.entries → (keys : List Hash256) → IsIndex old keys → IsIndex new keys
+IsIndex-kept old new same keys index =
+    let all = λ (q : Hash256). let found : get hash_cmp new.places q ≡ get hash_cmp old.places q = rw same in found in
+    record {
+      found = λ q p e. index.found q p (sym (all q) ∙ e);
+      absent = λ q e. index.absent q (sym (all q) ∙ e);
+    }
+
 pub IsIndex-pushed : (old new : Index) (hash : Hash256) (place : ℕ) → ((q : Hash256) → get hash_cmp new.places q ≡ (if is_eq (hash_cmp hash q) then Some place else get hash_cmp old.places q)) → (keys : List Hash256) → IsIndex old keys → place ≡ length keys → IsIndex new (keys ++ hash ∷ [])
 IsIndex-pushed old new hash place updates keys index at = record {
   found = λ q p e. found q p (is_eq (hash_cmp hash q)) refl (sym (updates q) ∙ e);

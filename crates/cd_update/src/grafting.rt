@@ -1,4 +1,4 @@
-ghost use Rattle.std.specs.Prelude.{◌≡◌, ◌⊎◌, ◌<◌, ◌≤◌, ◌+◌, ◌*◌, ℕ, All, Contains, IsTrue, List, false, [], ◌∷◌, length, map, slice_index_or, Some, None, IfOk, MatchResult};
+ghost use Rattle.std.specs.Prelude.{◌≡◌, ◌↔◌, ◌⊎◌, ◌<◌, ◌≤◌, ◌+◌, ◌*◌, ℕ, All, Contains, IsTrue, List, false, [], ◌∷◌, length, map, slice_index_or, Some, None, IfOk, MatchResult};
 ghost use Rattle.std.specs.List.{flat_map, list_any};
 ghost use Rattle.cd_cell.specs.Levels.{info_of_face};
 ghost use Rattle.cd_cell.specs.Tree.{Tree, info_of, face_of};
@@ -59,15 +59,15 @@ fn unknown<H: Hash32>(bag: &Bag<H>, visits: &[Visit], known: &Known) -> Option<H
 }
 
 /// What was worked out of an entry at a depth.
-fn info_at(walk: &Walk, infos: &[ChildInfo], node: Node) -> ChildInfo
+fn info_at<'a>(walk: &Walk, infos: &'a [ChildInfo], node: Node) -> &'a ChildInfo
     requires depth { node.depth ≤ 3 }
     requires entry { 4 * node.entry + 3 < length walk.now.numbers.items }
     requires counted { length infos.now ≡ length walk.now.visits.items }
     requires visited { IsTrue (list_any (same_node node) (nodes_of walk.now.visits.items)) }
-    ensures { (k : ℕ) × (k < length walk.now.visits.items) × ((visit_at walk.now.visits.items k).node ≡ node) × (result ≡ slice_index_or infos.now k no_info) }
+    ensures { (k : ℕ) × (k < length walk.now.visits.items) × ((visit_at walk.now.visits.items k).node ≡ node) × (result.now ≡ slice_index_or infos.now k no_info) }
 {
     match walk.number(node) {
-        Some(number) => infos[number],
+        Some(number) => &infos[number],
         None => unreachable!(),
     }
 }
@@ -87,24 +87,52 @@ fn new_face<H: Hash32>(
     requires grafted { AreGrafted H.digest_of known.now.infos bag.now.cells bag.now.refs walk.now.visits.items (spot visit.now.node + 1) infos.now }
     ensures { result ≡ grafted_face H.digest_of known.now.infos (bag_cell bag.now.cells bag.now.refs visit.now.node.entry) visit.now.node.depth }
 {
-    let face = bag.face(visit.node.entry);
-    let depth = below(face, visit.node.depth);
-    let children = bag.children(visit.node.entry);
-    let mut kids = [*shown_info(bag, visit); 4];
-    for (place, child) in children.iter().enumerate() {
-        kids[place] = info_at(
-            walk,
-            infos,
-            Node {
-                entry: *child,
-                depth,
-            },
-        );
+    let shown = bag.face(visit.node.entry);
+    let depth = below(shown, visit.node.depth);
+    let mut face = Face::new(shown.exotic(), *shown.bits(), &[]);
+    for child in bag.children(visit.node.entry) {
+        let node = Node {
+            entry: *child,
+            depth,
+        };
+        face.push(info_at(walk, infos, node));
     }
-    Face::new(face.exotic(), *face.bits(), &kids[..children.len()])
+    face
 }
 
-/// What the graft of a visit shows, whose children have been worked out. It is hashed only where a child changed.
+/// Whether the graft's face of a visible visit is the shown one, once its children have been worked out.
+fn is_unchanged<H: Hash32>(
+    bag: &Bag<H>,
+    walk: &Walk,
+    visit: &Visit,
+    infos: &[ChildInfo],
+    start: &Visit,
+    known: &Known,
+) -> bool
+    requires visited { Contains walk.now.visits.items visit.now }
+    requires visible { is_hidden visit.now.node.depth (face_at bag.now.cells visit.now.node.entry) ≡ false }
+    requires grafting { IsGrafting H.digest_of known.now.infos bag.now.cells bag.now.refs start.now walk.now.visits.items walk.now.numbers.items }
+    requires grafted { AreGrafted H.digest_of known.now.infos bag.now.cells bag.now.refs walk.now.visits.items (spot visit.now.node + 1) infos.now }
+    ensures { IsTrue result ↔ (grafted_face H.digest_of known.now.infos (bag_cell bag.now.cells bag.now.refs visit.now.node.entry) visit.now.node.depth ≡ face_at bag.now.cells visit.now.node.entry) }
+{
+    let shown = bag.face(visit.node.entry);
+    let depth = below(shown, visit.node.depth);
+    let kids = shown.kids();
+    let children = bag.children(visit.node.entry);
+    for (place, child) in children.iter().enumerate() {
+        let node = Node {
+            entry: *child,
+            depth,
+        };
+        if *info_at(walk, infos, node) != kids[place] {
+            return false;
+        }
+    }
+    true
+}
+
+/// What the graft of a visit shows, whose children have been worked out. A face is put together and hashed only
+/// where a child changed.
 fn new_info<H: Hash32>(
     bag: &Bag<H>,
     walk: &Walk,
@@ -123,11 +151,10 @@ fn new_info<H: Hash32>(
     if is_hidden(shown, info, visit.node.depth) {
         return info_upto(info, visit.node.depth);
     }
-    let face = new_face(bag, walk, visit, infos, start, known);
-    if face == *shown {
+    if is_unchanged(bag, walk, visit, infos, start, known) {
         return *info;
     }
-    face_info::<H>(&face)
+    face_info::<H>(&new_face(bag, walk, visit, infos, start, known))
 }
 
 /// What the grafts of all visits show, from the last entry to the first.
@@ -206,7 +233,7 @@ fn grafted_of<H: Hash32>(
     ensures infos { IfOk result (λ grafted. grafted.infos ≡ map (info_of_face H.digest_of) grafted.cells) }
 {
     let infos = new_infos(alloc, bag, walk, start, known)?;
-    let root = info_at(walk, infos.as_slice(), start.node);
+    let root = *info_at(walk, infos.as_slice(), start.node);
     let own = own_of(alloc, bag, walk, infos.as_slice(), start, known)?;
     Ok(Grafted {
         root,

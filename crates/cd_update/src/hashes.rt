@@ -1,4 +1,4 @@
-ghost use Rattle.std.specs.Prelude.{◌≡◌, ◌<◌, length, [], slice_index_or, IfOk, OnOk};
+ghost use Rattle.std.specs.Prelude.{◌≡◌, ◌<◌, length, [], slice_index_or, IfOk, OnErr};
 ghost use Rattle.cd_cell.specs.Infos.{no_hash};
 ghost use Rattle.cd_cell.specs.Equality.{same_hash};
 ghost use Rattle.cd_update.specs.EachOnce.{with_new};
@@ -13,13 +13,13 @@ use std::alloc::Global;
 pub(crate) struct Hashes {
     pub all: Vec<Hash256>,
     pub index: Index,
+    pub ghost indexed: { IsIndex index all.items },
 }
 
 impl Hashes {
     /// No hash.
     pub fn new(alloc: Global) -> Hashes
-        ensures all { result.all.items ≡ [] }
-        ensures indexed { IsIndex result.index result.all.items }
+        ensures { result.all.items ≡ [] }
     {
         Hashes {
             all: Vec::new(alloc),
@@ -29,18 +29,22 @@ impl Hashes {
 
     /// The place of a hash, which is put behind the others where it isn't there.
     pub fn place_of(&mut self, hash: Hash256) -> Result<usize, Memory>
-        requires { IsIndex self.old.index self.old.all.items }
-        ensures indexed { OnOk result (IsIndex self.new.index self.new.all.items) }
         ensures all { IfOk result (λ _. self.new.all.items ≡ with_new same_hash self.old.all.items hash) }
         ensures below { IfOk result (λ place. place < length self.new.all.items) }
         ensures place { IfOk result (λ place. slice_index_or self.new.all.items place no_hash ≡ hash) }
+        ensures kept { OnErr result (self.new.all.items ≡ self.old.all.items) }
     {
         if let Some(place) = self.index.place(&hash) {
             return Ok(place);
         }
         let place = self.all.len();
         self.all.push(hash)?;
-        self.index.push(hash, place)?;
-        Ok(place)
+        match self.index.push(hash, place) {
+            Ok(()) => Ok(place),
+            Err(fault) => {
+                self.all.pop();
+                Err(fault)
+            }
+        }
     }
 }

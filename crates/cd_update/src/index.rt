@@ -1,4 +1,4 @@
-ghost use Rattle.std.specs.Prelude.{◌≡◌, ◌<◌, ℕ, false, List, ◌++◌, ◌∷◌, [], length, slice_index_or, MatchOption, OnOk};
+ghost use Rattle.std.specs.Prelude.{◌≡◌, ◌<◌, ℕ, false, List, ◌++◌, ◌∷◌, [], length, slice_index_or, MatchOption, OnOk, OnErr};
 ghost use Rattle.std.specs.List.{list_any};
 ghost use Rattle.cd_base.specs.declared.hash.Hash256.{Hash256};
 ghost use Rattle.cd_cell.specs.Infos.{no_hash};
@@ -35,9 +35,12 @@ impl Index {
 
     /// One hash more, behind the others: its place is their number.
     pub fn push(&mut self, hash: Hash256, place: usize) -> Result<(), Memory>
-        ensures { OnOk result ((keys : List Hash256) → IsIndex self.old keys → place ≡ length keys → IsIndex self.new (keys ++ hash ∷ [])) }
+        ensures pushed { OnOk result ((keys : List Hash256) → IsIndex self.old keys → place ≡ length keys → IsIndex self.new (keys ++ hash ∷ [])) }
+        ensures kept { OnErr result ((keys : List Hash256) → IsIndex self.old keys → IsIndex self.new keys) }
     {
-        self.places.insert(hash, place)?;
-        Ok(())
+        match self.places.insert(hash, place) {
+            Ok(_) => Ok(()),
+            Err(_) => Err(Memory),
+        }
     }
 }

@@ -1,4 +1,4 @@
-ghost use Rattle.std.specs.Prelude.{◌≡◌, [], length, map, All, IfOk, OnOk};
+ghost use Rattle.std.specs.Prelude.{◌≡◌, [], length, map, All, OnOk, OnErr};
 ghost use Rattle.std.specs.List.{list_any};
 ghost use Rattle.cd_cell.specs.Infos.{rep_of_info};
 ghost use Rattle.cd_cell.specs.Equality.{same_info};
@@ -26,6 +26,7 @@ pub struct Known {
 pub(crate) struct Infos {
     pub all: Vec<ChildInfo>,
     pub index: Index,
+    pub ghost indexed: { IsIndex index (map rep_of_info all.items) },
 }
 
 /// Whether an info is among these, which are found by the hash at level 3. Where another one has this hash, all
@@ -56,8 +57,7 @@ fn is_among(infos: &[ChildInfo], info: &ChildInfo) -> bool
 impl Infos {
     /// No info.
     pub fn new(alloc: Global) -> Infos
-        ensures all { result.all.items ≡ [] }
-        ensures indexed { IsIndex result.index (map rep_of_info result.all.items) }
+        ensures { result.all.items ≡ [] }
     {
         Infos {
             all: Vec::new(alloc),
@@ -67,16 +67,20 @@ impl Infos {
 
     /// One info more, where it isn't there.
     pub fn add(&mut self, info: ChildInfo) -> Result<(), Memory>
-        requires { IsIndex self.old.index (map rep_of_info self.old.all.items) }
-        ensures indexed { OnOk result (IsIndex self.new.index (map rep_of_info self.new.all.items)) }
         ensures all { OnOk result (self.new.all.items ≡ with_new same_info self.old.all.items info) }
+        ensures kept { OnErr result (self.new.all.items ≡ self.old.all.items) }
     {
         if has(&self.all, &self.index, &info) {
             return Ok(());
         }
         let place = self.all.len();
         self.all.push(info)?;
-        self.index.push(info.rep(), place)?;
-        Ok(())
+        match self.index.push(info.rep(), place) {
+            Ok(()) => Ok(()),
+            Err(fault) => {
+                self.all.pop();
+                Err(fault)
+            }
+        }
     }
 }

@@ -1,4 +1,4 @@
-ghost use Rattle.std.specs.Prelude.{◌≡◌, [], ◌∷◌, ◌++◌, map, length, IfOk, OnOk};
+ghost use Rattle.std.specs.Prelude.{◌≡◌, [], ◌∷◌, ◌++◌, map, OnOk, OnErr};
 ghost use Rattle.std.specs.List.{list_any};
 ghost use Rattle.cd_cell.specs.Infos.{rep_of_info};
 ghost use Rattle.cd_cell.specs.Levels.{info_of_face};
@@ -17,6 +17,7 @@ pub(crate) struct Own {
     pub cells: Vec<Face>,
     pub infos: Vec<ChildInfo>,
     pub index: Index,
+    pub ghost indexed: { IsIndex index (map rep_of_info infos.items) },
 }
 
 /// Whether a face is among these.
@@ -36,7 +37,6 @@ impl Own {
     pub fn new(alloc: Global) -> Own
         ensures cells { result.cells.items ≡ [] }
         ensures infos { result.infos.items ≡ [] }
-        ensures indexed { IsIndex result.index (map rep_of_info result.infos.items) }
     {
         Own {
             cells: Vec::new(alloc),
@@ -49,7 +49,6 @@ impl Own {
     fn has<H: Hash32>(&self, face: &Face, info: &ChildInfo) -> bool
         requires info { info.now ≡ info_of_face H.digest_of face.now }
         requires infos { self.now.infos.items ≡ map (info_of_face H.digest_of) self.now.cells.items }
-        requires indexed { IsIndex self.now.index (map rep_of_info self.now.infos.items) }
         ensures { result ≡ list_any (same_face face.now) self.now.cells.items }
     {
         match self.index.place(&info.rep()) {
@@ -59,22 +58,41 @@ impl Own {
         }
     }
 
+    /// What one cell more shows.
+    fn put_info(&mut self, info: ChildInfo) -> Result<(), Memory>
+        ensures infos { OnOk result (self.new.infos.items ≡ self.old.infos.items ++ info ∷ []) }
+        ensures cells { self.new.cells.items ≡ self.old.cells.items }
+        ensures kept { OnErr result (self.new.infos.items ≡ self.old.infos.items) }
+    {
+        let place = self.infos.len();
+        self.infos.push(info)?;
+        match self.index.push(info.rep(), place) {
+            Ok(()) => Ok(()),
+            Err(fault) => {
+                self.infos.pop();
+                Err(fault)
+            }
+        }
+    }
+
     /// One cell more, where it isn't there.
     pub fn add<H: Hash32>(&mut self, face: Face, info: ChildInfo) -> Result<(), Memory>
         requires info { info ≡ info_of_face H.digest_of face }
         requires infos { self.old.infos.items ≡ map (info_of_face H.digest_of) self.old.cells.items }
-        requires indexed { IsIndex self.old.index (map rep_of_info self.old.infos.items) }
         ensures cells { OnOk result (self.new.cells.items ≡ with_new same_face self.old.cells.items face) }
         ensures infos { OnOk result (self.new.infos.items ≡ map (info_of_face H.digest_of) self.new.cells.items) }
-        ensures indexed { OnOk result (IsIndex self.new.index (map rep_of_info self.new.infos.items)) }
+        ensures kept { OnErr result ((self.new.cells.items ≡ self.old.cells.items) × (self.new.infos.items ≡ self.old.infos.items)) }
     {
         if self.has::<H>(&face, &info) {
             return Ok(());
         }
-        let place = self.infos.len();
         self.cells.push(face)?;
-        self.infos.push(info)?;
-        self.index.push(info.rep(), place)?;
-        Ok(())
+        match self.put_info(info) {
+            Ok(()) => Ok(()),
+            Err(fault) => {
+                self.cells.pop();
+                Err(fault)
+            }
+        }
     }
 }

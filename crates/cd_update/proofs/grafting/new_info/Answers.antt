@@ -21,17 +21,17 @@ returns-then-is_hidden g c =
     ∙ ap (upto v.node.depth) c.shown_info-info.ensures.info
     ∙ sym (info-hidden H c.args.known.now.infos bag.cells bag.refs bag.roots bag.is_bag c.args.start.now walk.visits.items walk.numbers.items c.requires.grafting v c.requires.visited hidden)
 
-pub returns-then-eq : goal.returns-then-eq
-returns-then-eq g c =
+pub returns-then-is_unchanged : goal.returns-then-is_unchanged
+returns-then-is_unchanged g c =
     let H = g.H.Hash32.digest_of in
     let bag = c.args.bag.now in
     let n = c.args.visit.now.node in
     let t = bag_cell bag.cells bag.refs n.entry in
     let shown = ap (is_hidden n.depth) c.face-shown.ensures.cell ∙ sym c.is_hidden.ensures ∙ c.if-is_hidden.false in
-    let same = c.eq.ensures.value.0 c.if-eq.true in
+    let same = c.is_unchanged.ensures.0 c.if-is_unchanged.true in
     c.shown_info-info.ensures.info
     ∙ info_of-face_of H t
-    ∙ ap (info_of_face H) (c.face-shown.ensures.cell ∙ sym same ∙ c.new_face-face.ensures)
+    ∙ ap (info_of_face H) (c.face-shown.ensures.cell ∙ c.face-shown.ensures.face ∙ sym same)
     ∙ sym (info-visible H c.args.known.now.infos c.requires.grafting.old t n.depth shown)
 
 pub face_info-requires-after_bounds : goal.face_info-requires-after_bounds
@@ -43,7 +43,7 @@ face_info-requires-after_bounds g c κs within =
     let t = bag_cell bag.cells bag.refs v.node.entry in
     let shown = ap (is_hidden v.node.depth) c.face-shown.ensures.cell ∙ sym c.is_hidden.ensures ∙ c.if-is_hidden.false in
     let ready = visit-ready H c.args.known.now.infos bag.cells bag.refs bag.roots bag.is_bag c.args.start.now walk.visits.items walk.numbers.items c.requires.grafting v c.requires.visited in
-    subst IsFaceFit (sym c.new_face-face.ensures) (face-good H c.args.known.now.infos c.requires.grafting.old t v.node.depth ready shown).good.fit
+    subst IsFaceFit (sym c.new_face.ensures) (face-good H c.args.known.now.infos c.requires.grafting.old t v.node.depth ready shown).good.fit
 
 pub returns : goal.returns
 returns g c =
@@ -52,4 +52,4 @@ returns g c =
     let n = c.args.visit.now.node in
     let t = bag_cell bag.cells bag.refs n.entry in
     let shown = ap (is_hidden n.depth) c.face-shown.ensures.cell ∙ sym c.is_hidden.ensures ∙ c.if-is_hidden.false in
-    c.face_info.ensures.face ∙ ap (info_of_face H) c.new_face-face.ensures ∙ sym (info-visible H c.args.known.now.infos c.requires.grafting.old t n.depth shown)
+    c.face_info.ensures.face ∙ ap (info_of_face H) c.new_face.ensures ∙ sym (info-visible H c.args.known.now.infos c.requires.grafting.old t n.depth shown)

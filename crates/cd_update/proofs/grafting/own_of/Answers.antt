@@ -32,7 +32,6 @@ loop-number-preserved-then-is_hidden g c =
           c.loop-number.invariant.cells
           ∙ sym (each_once-more bag.cells bag.refs visits i in' same_face (own_face_at H known) ∙ ap (fold (with_new same_face) (each_once same_face (flat_map (own_face_at H known) (visited bag.cells bag.refs (take i visits))))) none);
       infos = c.loop-number.invariant.infos;
-      indexed = c.loop-number.invariant.indexed;
     }
 
 pub new_face-face-requires-clause-grafted : goal.new_face-face-requires-clause-grafted
@@ -79,5 +78,4 @@ loop-number-preserved g c =
           ∙ ap₂ (with_new same_face) c.loop-number.invariant.cells c.new_face-face.ensures
           ∙ sym (each_once-more bag.cells bag.refs visits i in' same_face (own_face_at H known) ∙ ap (fold (with_new same_face) (each_once same_face (flat_map (own_face_at H known) (visited bag.cells bag.refs (take i visits))))) one);
       infos = c.in_ok-add.ensures.infos;
-      indexed = c.in_ok-add.ensures.indexed;
     }

@@ -21,7 +21,6 @@ loop-visit-preserved-in_default g c =
     let none : visible_hash H p ≡ None = sym c.hash_of_visible.ensures ∙ c.in_default.is in
     record {
       all = c.loop-visit.invariant.all ∙ sym (wanted-hidden H bag.cells bag.refs visits i in' none);
-      indexed = c.loop-visit.invariant.indexed;
       agree = first_of-more bag.cells bag.refs visits i in' (misfit_at H look) c.loop-visit.invariant.agree ∙ misfit_at-hidden H look p none;
     }
 
@@ -63,6 +62,5 @@ loop-visit-preserved g c =
     let told_here = misfit_at-visible H look p hash some ∙ ap₂ (λ o f. unlike p.depth hash o f) found c.face-shown.ensures.cell in
     record {
       all = grown ∙ sym (wanted-visible H bag.cells bag.refs visits i in' hash some);
-      indexed = c.in-Ok.ensures.indexed;
       agree = first_of-more bag.cells bag.refs visits i in' (misfit_at H look) c.loop-visit.invariant.agree ∙ told_here ∙ c.in_default-unlike_face.ensures;
     }

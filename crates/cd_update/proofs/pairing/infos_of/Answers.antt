@@ -26,7 +26,6 @@ loop-visit-preserved g c =
     let grown = c.in_ok-add.ensures.all ∙ ap (with_new same_info c.loop-visit.infos.all.items) info in
     record {
       all = grown ∙ ap (λ ks. with_new same_info ks (upto v.node.depth (info_of H t))) c.loop-visit.invariant.all ∙ sym (each_once-more bag.cells bag.refs visits i in' same_info (known_at H));
-      indexed = c.in_ok-add.ensures.indexed;
       old =
           subst (All IsOldInfo) (sym grown)
           (All-with_new IsOldInfo same_info c.loop-visit.infos.all.items (upto v.node.depth (info_of H t)) c.loop-visit.invariant.old

@@ -1,16 +1,13 @@
 -- The infos of the visits so far, each once.
-use Rattle.std.proofs.Common.{◌≡◌, take, map, flat_map, All}
-use Rattle.cd_cell.specs.Infos.{rep_of_info}
+use Rattle.std.proofs.Common.{◌≡◌, take, flat_map, All}
 use Rattle.cd_cell.specs.Equality.{same_info}
 use Rattle.cd_update.specs.EachOnce.{each_once}
 use Rattle.cd_update.specs.Visits.{visited}
 use Rattle.cd_update.specs.Pairing.{known_at, IsOldInfo}
-use Rattle.cd_update.specs.Indexes.{IsIndex}
 use Rattle.cd_update.proofs.pairing.infos_of.Given as goal
 
 abbrev pub invariant-loop-visit : goal.invariant-loop-visit
 invariant-loop-visit g l = record {
   all : l.infos.all.items ≡ each_once same_info (flat_map (known_at g.H.Hash32.digest_of) (visited l.bag.cells l.bag.refs (take l.visit-index l.visits)));
-  indexed : IsIndex l.infos.index (map rep_of_info l.infos.all.items);
   old : All IsOldInfo l.infos.all.items;
 }

@@ -12,4 +12,4 @@ returns-in-None g c =
     let keys = map rep_of_info own.infos.items in
     sym
     (no_face_rep g.H.Hash32.digest_of own.cells.items own.infos.items c.args.face.now c.args.info.now c.requires.info c.requires.infos
-    (subst (λ h. list_any (same_hash h) keys ≡ false) c.rep.ensures (c.in-None.ensures keys c.requires.indexed)))
+    (subst (λ h. list_any (same_hash h) keys ≡ false) c.rep.ensures (c.in-None.ensures keys own.indexed)))
