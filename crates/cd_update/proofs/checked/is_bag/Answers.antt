@@ -1,5 +1,5 @@
 -- What was tested is what a bag keeps.
-use Rattle.std.proofs.Common.{◌∙◌, sym, arith}
+use Rattle.std.proofs.Common.{arith}
 use Rattle.cd_update.proofs.checked.is_bag.Goals as goal
 
 pub returns : goal.returns

@@ -1,7 +1,7 @@
 -- The kid in the place is the info of the entry that is named.
 use Rattle.std.proofs.Common.{◌≡◌, ◌<◌, length, get_or, ap, sym, ◌∙◌, arith}
 use Rattle.std.proofs.lemmas.List.{get_or_default}
-use Rattle.cd_cell.specs.CellFaults.{no_info, kid_at}
+use Rattle.cd_cell.specs.CellFaults.{no_info}
 use Rattle.cd_cell.specs.Equality.{same_info-Decides}
 use Rattle.cd_cell.specs.Bags.{no_face, face_at, ref_at}
 use Rattle.cd_update.proofs.IndexLaws.{same_info-derived}
