@@ -4,7 +4,8 @@
     bench/run.py [--cells N ..] [--low BYTES] [--high BYTES] [--times N]
 
 At the top of the repository, after `rt ci` or `rt run` left the programs in crates/*/out. Each row is the least of N runs
-(3 where it isn't given), since what else the machine does only adds. It is no part of the gate.
+(3 where it isn't given), since what else the machine does only adds. A peak under some 15 MB is that of Python, which
+starts the programs. It is no part of the gate.
 """
 import argparse
 import os
