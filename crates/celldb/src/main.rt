@@ -1,6 +1,10 @@
 //! The program: it makes the objects of the outside, hands them to the top call, and ends with its status.
 #![tactic(auto)]
 
+ghost use Rattle.std.specs.Prelude.{◌≡◌};
+ghost use Rattle.std.specs.Process.{exit_status};
+ghost use Rattle.cd_top.specs.StatusText.{code_of};
+
 use cd_base::{StdSink, StdSource};
 use cd_cell::Sha;
 use cd_keeper::SteadyKeeper;
@@ -27,7 +31,9 @@ fn refused(error: &io::Error) -> Status {
 }
 
 /// Prints the line of a status to standard error, and gives its number.
-fn end(rt: &impl Eprint, status: Status) -> ExitCode {
+fn end(rt: &impl Eprint, status: Status) -> ExitCode
+    ensures { exit_status result ≡ code_of status }
+{
     if let Some(line) = status.line() {
         let _ = rt.eprintln(line);
     }
