@@ -24,7 +24,7 @@ use Rattle.cd_cell.proofs.ExportOrder.{AreDistinct-distinct_cells, Contains-dist
 use Rattle.cd_update.specs.Pairing.{beside, wanted_hashes, AreOf}
 use Rattle.cd_update.specs.Indexes.{IsIndex}
 use Rattle.cd_update.proofs.VisitLaws.{IsIndex-pushed}
-use Rattle.cd_prepare.specs.States.{state_fault, IsWhole}
+use Rattle.cd_prepare.specs.States.{IsWhole}
 use Rattle.bag_faults.specs.OldStates.{face_in, IsIndexed, state_of, IsState}
 
 -- ---- cells found by their hashes
@@ -105,12 +105,6 @@ module _ (H : List ℕ → Hash256) where
     well_formed-all no_trees good = tt
     well_formed-all (tree_and t ts) good =
         (well_formed-good t (λ s h. good s (Contains-append_left (subtrees t) (subtrees_of_all ts) s h)), well_formed-all ts (λ s h. good s (Contains-append_right (subtrees t) (subtrees_of_all ts) s h)))
-
-  -- trees without a fault are one
-  pub one_tree : (trees : List Tree) → state_fault H trees ≡ None → (t : Tree) × (trees ≡ t ∷ [])
-  one_tree [] e = absurd (cc e)
-  one_tree (t ∷ []) e = (t, refl)
-  one_tree (t ∷ u ∷ ts) e = absurd (cc e)
 
   -- all cells of a bag's one tree are a state
   pub IsState-whole : (cells : List FaceView) (refs : List (List ℕ)) (roots : List ℕ) → IsBag H cells refs roots → (t : Tree) → bag_trees cells refs roots ≡ t ∷ [] → (root : ChildInfo) (listed : List NewCell) → IsWhole H t root listed → IsState H root listed

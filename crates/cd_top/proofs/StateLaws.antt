@@ -166,16 +166,6 @@ module _ (H : List ℕ → Hash256) (state : Tree) (clear : IsClashFree H state)
 -- ---- bags of states, and others
 
 module _ (H : List ℕ → Hash256) where
-  by-mask : (n : ℕ) (b : Bool) (fault : PrepareFault) → nat_eq n 0 ≡ b → cond {A = Option PrepareFault} b None (Some fault) ≡ None → n ≡ 0
-  by-mask n true fault test e = (Decides-eqb n 0).0 test
-  by-mask n false fault test e = absurd (let no : Some fault ≡ None = e in cc)
-
-  -- without a fault there is one tree, of mask 0
-  pub state-of : (trees : List Tree) → state_fault H trees ≡ None → (state : Tree) × (trees ≡ state ∷ []) × (mask_of H state ≡ 0)
-  state-of [] e = absurd cc
-  state-of (t ∷ []) e = (t, refl, by-mask (mask_of H t) (nat_eq (mask_of H t) 0) (prepare.Level (mask_of H t)) refl e)
-  state-of (t ∷ u ∷ ts) e = absurd cc
-
   few-trees : (bytes : List ℕ) (trees : List Tree) → Spells H bytes trees → length trees ≤ 1048576
   few-trees bytes trees s =
       let roots = simp length-map at (ap length s.are) in

@@ -4,7 +4,8 @@ use Rattle.cd_cell.specs.Bags.{bag_trees}
 use Rattle.cd_cell.specs.Export.{AreClashFree}
 use Rattle.cd_cell.proofs.BagLaws.{clash_free-bag_trees}
 use Rattle.cd_boc_read.specs.Grammar.{Spells}
-use Rattle.cd_top.proofs.StateLaws.{state-of, refused-bag}
+use Rattle.cd_prepare.proofs.StateLaws.{state-of}
+use Rattle.cd_top.proofs.StateLaws.{refused-bag}
 use Rattle.cd_top.proofs.once.prepared_of.Goals as goal
 
 pub returns-in-Ok-prepare_zero-clause-found : goal.returns-in-Ok-prepare_zero-clause-found

@@ -1,8 +1,9 @@
 -- The cells of a whole bag are a state.
 use Rattle.std.proofs.Common.{subst}
 use Rattle.cd_cell.specs.Bags.{bag_trees}
+use Rattle.cd_prepare.proofs.StateLaws.{state-of}
 use Rattle.bag_faults.specs.OldStates.{IsIndexed}
-use Rattle.bag_faults.proofs.OldStateLaws.{one_tree, IsState-whole}
+use Rattle.bag_faults.proofs.OldStateLaws.{IsState-whole}
 use Rattle.bag_faults.proofs.old_state.OldState.of.Goals as goal
 
 pub invariant_of-result : goal.invariant_of-result
@@ -10,7 +11,7 @@ invariant_of-result g c =
     let H = g.H.Hash32.digest_of in
     let bag = c.args.bag.now in
     let whole = c.in-Ok.whole in
-    let one = one_tree H (bag_trees bag.cells bag.refs bag.roots) c.in-Ok.ensures.exact in
+    let one = state-of H (bag_trees bag.cells bag.refs bag.roots) c.in-Ok.ensures.exact in
     record {
       is_state = IsState-whole H bag.cells bag.refs bag.roots bag.is_bag one.0 one.1 whole.root whole.cells (c.in-Ok.ensures.whole one.0 one.1);
       indexed = subst (IsIndexed c.in_ok-places.places) c.as_slice.ensures c.in_ok-places.ensures;
