@@ -1,10 +1,12 @@
 -- A field that is read is the field that was written, and what was written is read again.
-use Rattle.std.proofs.Common.{◌≡◌, ℕ, zero, suc, ◌%◌, ◌^◌, ◌<◌, ◌≤◌, Bool, true, false, cond, ltb, List, [], ◌∷◌, ◌++◌, length, get_or, subst, take, drop, Result, Ok, Err, refl, sym, ap, ◌∙◌, append_assoc, arith}
+use Rattle.std.proofs.Common.{◌≡◌, ℕ, zero, suc, ◌+◌, ◌-◌, ◌%◌, ◌^◌, ◌<◌, ◌≤◌, Bool, true, false, cond, ltb, List, [], ◌∷◌, ◌++◌, length, get_or, subst, take, drop, Result, Ok, Err, refl, sym, ap, ◌∙◌, append_assoc, arith}
 use Rattle.std.proofs.lemmas.Bool.{ltb-false, le-ltb}
-use Rattle.std.proofs.lemmas.List.{take_at, drop_at, take-append-drop, length-append, length-take}
+use Rattle.std.specs.List.{flat_map, AllByRecursion}
+use Rattle.std.proofs.lemmas.List.{take_at, drop_at, take-append-drop, length-append, length-take, append-nil}
+use Rattle.std.proofs.lemmas.List.Concat.{flat_map-cons}
 use Rattle.cd_base.specs.Numbers.{IsBytes, big, little, from_big}
 use Rattle.cd_base.proofs.NumberLaws.{IsBytes-take, IsBytes-drop, IsBytes-append, length-big, from_big-big, big-from_big, from_big-lt}
-use Rattle.cd_base.specs.Reading.{◌>>=◌, require, part_at, byte_at, number_at}
+use Rattle.cd_base.specs.Reading.{◌>>=◌, require, part_at, byte_at, number_at, each_at}
 
 pub ok_is : {F A : Type 0} (x y : A) → ◌≡◌ {A = Result A F} (Ok x) (Ok y) → x ≡ y
 ok_is x y e = cc
@@ -123,3 +125,67 @@ number_takes fault len bytes x fits e =
 pub number_again : {F : Type 0} (fault : F) (len value : ℕ) (rest : List ℕ) → value < 256 ^ len → number_at fault len (big len value ++ rest) ≡ Ok (value, rest)
 unfolding number_at
 number_again fault len value rest fits = rw (part_again fault len (big len value) rest (length-big len value), from_big-big len value fits) refl
+
+-- ---- values one behind another
+
+-- each value is spelled by its text, where P holds of it
+module _ {F X : Type 0} (one : List ℕ → Result (X × List ℕ) F) (text : X → List ℕ) (P : X → Type 0) where
+  pub each_takes : ((bytes : List ℕ) (x : X × List ℕ) → IsBytes bytes → one bytes ≡ Ok x → Takes bytes (text x.0) x.1 × P x.0)
+      → (count : ℕ) (bytes : List ℕ) (x : List X × List ℕ) → IsBytes bytes → each_at one count bytes ≡ Ok x
+      → Takes bytes (flat_map text x.0) x.1 × (length x.0 ≡ count) × AllByRecursion P x.0
+  unfolding each_at
+  each_takes step zero bytes x fits e =
+      subst (λ (y : List X × List ℕ). Takes bytes (flat_map text y.0) y.1 × (length y.0 ≡ 0) × AllByRecursion P y.0) (ok_is ([], bytes) x e)
+      (Takes-none bytes fits, refl, tt)
+  each_takes step (suc count) bytes x fits e =
+      by_ok (one bytes) _ x e (λ first e0 k0.
+      by_ok (each_at one count first.1) _ x k0 (λ others e1 k1.
+      let t = step bytes first fits e0 in
+      let o = each_takes step count first.1 others t.0.rest_fits e1 in
+      let both = Takes-then bytes (text first.0) first.1 (flat_map text others.0) others.1 t.0 o.0 in
+      subst (λ (y : List X × List ℕ). Takes bytes (flat_map text y.0) y.1 × (length y.0 ≡ suc count) × AllByRecursion P y.0)
+      (ok_is (first.0 ∷ others.0, others.1) x k1)
+      (rw flat_map-cons both, ap suc o.1, (t.1, o.2))))
+
+  pub each_again : ((x : X) (rest : List ℕ) → P x → one (text x ++ rest) ≡ Ok (x, rest))
+      → (xs : List X) (rest : List ℕ) → AllByRecursion P xs → each_at one (length xs) (flat_map text xs ++ rest) ≡ Ok (xs, rest)
+  unfolding each_at
+  each_again step [] rest fit = refl
+  each_again step (x ∷ xs) rest fit =
+      let regrouped : flat_map text (x ∷ xs) ++ rest ≡ text x ++ (flat_map text xs ++ rest) = ap (λ (w : List ℕ). w ++ rest) (flat_map-cons text x xs) ∙ append_assoc (text x) (flat_map text xs) rest in
+      ap (each_at one (suc (length xs))) regrouped
+      ∙ rw (step x (flat_map text xs ++ rest) fit.0, each_again step xs rest fit.1) refl
+
+-- ---- values one behind another, as a loop reads them
+
+-- what was read before, and what is still read
+abbrev pub with_front : {F X : Type 0} → List X → Result (List X × List ℕ) F → Result (List X × List ℕ) F
+with_front front read = read >>= λ x. Ok (front ++ x.0, x.1)
+
+module _ {F X : Type 0} (one : List ℕ → Result (X × List ℕ) F) where
+  regroup : (front : List X) (first : X) (read : Result (List X × List ℕ) F) → with_front front (read >>= λ x. Ok (first ∷ x.0, x.1)) ≡ with_front (front ++ first ∷ []) read
+  regroup front first (Ok x) = ap (λ (xs : List X). Ok (xs, x.1)) (simp append_assoc)
+  regroup front first (Err f) = refl
+
+  pub each_goes_on : (front : List X) (count i : ℕ) (bytes after : List ℕ) (first : X) (total : Result (List X × List ℕ) F) → i < count → one bytes ≡ Ok (first, after)
+      → with_front front (each_at one (count - i) bytes) ≡ total → with_front (front ++ first ∷ []) (each_at one (count - (i + 1)) after) ≡ total
+  unfolding each_at
+  each_goes_on front count i bytes after first total lt h so_far =
+      let k : count - i ≡ suc (count - (i + 1)) = omega arith in
+      let goes : with_front front (each_at one (count - i) bytes) ≡ with_front (front ++ first ∷ []) (each_at one (count - (i + 1)) after) = rw (k, h) (regroup front first (each_at one (count - (i + 1)) after)) in
+      sym goes ∙ so_far
+
+  pub each_stops : (f : F) (front : List X) (count i : ℕ) (bytes : List ℕ) (total : Result (List X × List ℕ) F) → i < count → one bytes ≡ Err f
+      → with_front front (each_at one (count - i) bytes) ≡ total → total ≡ Err f
+  unfolding each_at
+  each_stops f front count i bytes total lt h so_far =
+      let k : count - i ≡ suc (count - (i + 1)) = omega arith in
+      let stops : with_front front (each_at one (count - i) bytes) ≡ Err f = rw (k, h) refl in
+      sym so_far ∙ stops
+
+  pub each_done : (front : List X) (count i : ℕ) (bytes : List ℕ) (total : Result (List X × List ℕ) F) → count ≤ i → with_front front (each_at one (count - i) bytes) ≡ total → total ≡ Ok (front, bytes)
+  unfolding each_at
+  each_done front count i bytes total le so_far =
+      let k : count - i ≡ 0 = omega arith in
+      let done : with_front front (each_at one (count - i) bytes) ≡ Ok (front, bytes) = rw k (ap (λ (xs : List X). Ok (xs, bytes)) (append-nil front)) in
+      sym so_far ∙ done

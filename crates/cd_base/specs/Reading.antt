@@ -1,5 +1,5 @@
 -- Trusted: reading bytes from left to right, with the first fault that is met, whatever a format's faults are.
-use Rattle.std.specs.Prelude.{◌≡◌, ◌≢◌, ℕ, Bool, nat_lt, List, [], ◌∷◌, length, take, drop, Result, Ok, Err, if◌then◌else◌}
+use Rattle.std.specs.Prelude.{◌≡◌, ◌≢◌, ℕ, zero, suc, Bool, nat_lt, List, [], ◌∷◌, length, take, drop, Result, Ok, Err, if◌then◌else◌}
 use Rattle.cd_base.specs.Numbers.{from_big}
 
 -- a step, and what follows it where it gave a value
@@ -36,3 +36,11 @@ unfoldable pub number_at : {F : Type 0} → F → ℕ → List ℕ → Result (�
 number_at fault len bytes = do
   part ← part_at fault len bytes
   Ok (from_big part.0, part.1)
+
+-- so many values one behind another, each read alike
+unfoldable pub each_at : {F X : Type 0} → (List ℕ → Result (X × List ℕ) F) → ℕ → List ℕ → Result (List X × List ℕ) F
+each_at one zero bytes = Ok ([], bytes)
+each_at one (suc count) bytes = do
+  first ← one bytes
+  others ← each_at one count first.1
+  Ok (first.0 ∷ others.0, others.1)
