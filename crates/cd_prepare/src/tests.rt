@@ -53,9 +53,9 @@ fn each_cell_is_listed_once_in_the_order_of_an_export(rt: HostRuntime) -> Result
     for (bytes, hashes, height) in cases {
         let bag = bag(alloc, bytes)?;
         let value = prepare_zero(alloc, &bag)?;
-        assert_eq!(rt; value.old, None);
-        assert_eq!(rt; value.root.height(), height);
-        let cells = value.cells.as_slice();
+        assert_eq!(rt; value.old(), None);
+        assert_eq!(rt; value.root().height(), height);
+        let cells = value.cells();
         assert_eq!(rt; cells.len(), hashes.len());
         for (cell, last) in cells.iter().zip(hashes) {
             assert_eq!(rt; cell.hash, weak(*last));
@@ -193,9 +193,9 @@ fn an_update_that_changes_nothing_has_no_new_cell(rt: HostRuntime) -> Result<(),
     let alloc = rt.alloc();
     let bytes = update_bag(alloc, &update(3, 0, 1, 1), 2, &[&pruned(3)])?;
     let value = prepared(alloc, &bytes, 3, &[])??;
-    assert_eq!(rt; value.old, Some(weak(3)));
-    assert_eq!(rt; value.root, root(3));
-    assert_eq!(rt; value.cells.as_slice().len(), 0);
+    assert_eq!(rt; value.old(), Some(weak(3)));
+    assert_eq!(rt; *value.root(), root(3));
+    assert_eq!(rt; value.cells().len(), 0);
     let due = Some(PrepareFault::OldHash {
         stated: weak(3),
         real: weak(7),
@@ -210,8 +210,8 @@ fn a_new_half_of_one_cell_is_listed(rt: HostRuntime) -> Result<(), Fail> {
     let update = update(18, 0, 1, 2);
     let bytes = update_bag(alloc, &update, 3, &[&pruned(3), &[0, 2, 16]])?;
     let value = prepared(alloc, &bytes, 3, &[])??;
-    assert_eq!(rt; value.root.rep(), weak(18));
-    let [cell] = value.cells.as_slice() else {
+    assert_eq!(rt; value.root().rep(), weak(18));
+    let [cell] = value.cells() else {
         return Err(Fail::from("one cell"));
     };
     assert_eq!(rt; cell.hash, weak(18));
@@ -286,7 +286,7 @@ fn chain(alloc: Global, first: u16, byte: u8) -> Result<Vec<u8>, AllocError> {
 
 // What the root of a bag shows.
 fn shown(bag: &Bag<Sha>) -> Result<ChildInfo, Fail> {
-    match bag.roots.as_slice() {
+    match bag.roots() {
         [root, ..] => Ok(bag.info(*root)),
         [] => Err(Fail::from("a root")),
     }
@@ -310,11 +310,11 @@ fn cells_of_four_equal_children_are_prepared_at_once(rt: HostRuntime) -> Result<
         return Err(Fail::from("an update"));
     };
     let mut faces = Vec::new(alloc);
-    for face in old.cells.as_slice() {
+    for face in old.cells() {
         faces.push(Some(*face))?;
     }
     let value = prepare_update(alloc, &update, &before, &faces)?;
-    assert_eq!(rt; value.root, after);
-    assert_eq!(rt; value.cells.as_slice().len(), 200);
+    assert_eq!(rt; *value.root(), after);
+    assert_eq!(rt; value.cells().len(), 200);
     Ok(())
 }

@@ -250,7 +250,7 @@ fn are_rooted(roots: &[u32], count: usize) -> bool
 
 /// The face of an entry.
 pub(crate) fn face_in<H: Hash32>(bag: &Bag<H>, number: u32) -> Result<Face, &'static str> {
-    if number as usize >= bag.cells.as_slice().len() {
+    if number as usize >= bag.cells().len() {
         return Err("no such entry");
     }
     Ok(*bag.face(number))
@@ -258,7 +258,7 @@ pub(crate) fn face_in<H: Hash32>(bag: &Bag<H>, number: u32) -> Result<Face, &'st
 
 /// What the first entry shows.
 pub(crate) fn info_in<H: Hash32>(bag: &Bag<H>) -> Result<ChildInfo, &'static str> {
-    if bag.cells.as_slice().is_empty() {
+    if bag.cells().is_empty() {
         return Err("no entry");
     }
     Ok(bag.info(0))

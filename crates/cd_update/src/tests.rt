@@ -312,7 +312,7 @@ fn between(alloc: Global, old: &Bag<Sha>, new: &Bag<Sha>) -> Result<Bag<Sha>, &'
 // The faces of all entries.
 fn faces_of(alloc: Global, bag: &Bag<Sha>) -> Result<Vec<Option<Face>>, Memory> {
     let mut faces = Vec::new(alloc);
-    for face in bag.cells.as_slice() {
+    for face in bag.cells() {
         faces.push(Some(*face))?;
     }
     Ok(faces)
