@@ -6,5 +6,4 @@ pub mod Indexes
 pub mod Visits
 pub mod Pairing
 pub mod Faults
-pub mod Checked
 pub mod Grafts
