@@ -5,5 +5,4 @@ pub mod UpdateFaults
 pub mod Visits
 pub mod Pairing
 pub mod Faults
-pub mod Checked
 pub mod Grafts

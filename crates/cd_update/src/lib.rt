@@ -24,8 +24,3 @@ pub use pair_fault::PairFault;
 pub use pairing::pair_old;
 pub use update::Update;
 pub use update_fault::UpdateFault;
-
-#[cfg(test)]
-mod checked;
-#[cfg(test)]
-mod tests;
