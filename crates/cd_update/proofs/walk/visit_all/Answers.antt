@@ -27,7 +27,7 @@ add-requires-clause-entry g c =
     omega (arith, c.loop-visit.invariant.wide, (top-shown g.H.Hash32.digest_of bag.cells bag.refs bag.roots c.cells.ensures.kept c.args.start.node c.loop-visit.walk.visits.items c.loop-visit.pending.items c.pop.new.self.items c.in-Some.visit c.loop-visit.invariant.walking c.in-Some.ensures.items).entry)
 
 pub push_children-requires-clause-shown : goal.push_children-requires-clause-shown
-push_children-requires-clause-shown g c κs within =
+push_children-requires-clause-shown g c =
     let bag = c.args.bag.now in
     top-shown g.H.Hash32.digest_of bag.cells bag.refs bag.roots c.cells.ensures.kept c.args.start.node c.loop-visit.walk.visits.items c.loop-visit.pending.items c.pop.new.self.items c.in-Some.visit c.loop-visit.invariant.walking c.in-Some.ensures.items
 
