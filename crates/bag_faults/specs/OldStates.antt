@@ -24,7 +24,7 @@ IsIndexed places cells = IsIndex (record { places = places }) (map (λ c. c.hash
 module _ (H : List ℕ → Hash256) where
   -- the tree that a root and listed cells stand for, without an old tree
   abbrev pub state_of : ChildInfo → List NewCell → Tree
-  state_of root cells = tree_of H root cells None
+  state_of root cells = tree_of H root cells []
 
   -- they are all cells of that tree, which is well-formed and free of clashes
   pub record IsState (root : ChildInfo) (cells : List NewCell) : Type 0 where
