@@ -1,5 +1,5 @@
 -- Old states: all cells of a tree, which are found by their hashes.
-use Rattle.std.specs.Prelude.{◌≡◌, ℕ, List, map, find, Contains, Option, None}
+use Rattle.std.specs.Prelude.{◌≡◌, ℕ, List, map, find, Contains, Option, None, []}
 use Rattle.std.specs.Option.{option_map}
 use Rattle.std.specs.BTreeMap.{BTreeMap}
 use Rattle.cd_base.specs.declared.hash.Hash256.{Hash256}

@@ -104,6 +104,7 @@ impl<H: Hash32> Bag<H> {
     pub fn info(&self, number: u32) -> ChildInfo
         requires { number < length self.now.cells }
         ensures info { result ≡ info_of H.digest_of (bag_tree self.now number) }
+        ensures kept { IsBag H.digest_of self.now.cells self.now.refs self.now.roots }
         // Over the whole tree: mask, depths and hashes are those of the recursion over levels and children.
         ensures mask { result.mask ≡ tree_mask (bag_tree self.now number) }
         ensures depths { (l : ℕ) → l ≤ 3 → info_depth result l ≡ tree_depth (bag_tree self.now number) l }

@@ -1,5 +1,5 @@
 -- Updates applied to an old tree, and what preparing one answers.
-use Rattle.std.specs.Prelude.{◌≡◌, ℕ, List, ◌∷◌, map, Option, Some, Ok}
+use Rattle.std.specs.Prelude.{◌≡◌, ℕ, List, ◌∷◌, map, Option, Some, Ok, []}
 use Rattle.std.specs.Option.{option_or, option_map}
 use Rattle.std.specs.List.{flat_map}
 use Rattle.cd_base.specs.declared.hash.Hash256.{Hash256}

@@ -1,6 +1,6 @@
 //! What holds of prepared values, as contracts of functions that do nothing.
 
-ghost use Rattle.std.specs.Prelude.{◌≡◌, ℕ, List, ◌∷◌, map, Some, Ok};
+ghost use Rattle.std.specs.Prelude.{◌≡◌, ℕ, List, ◌∷◌, map, Some, Ok, []};
 ghost use Rattle.cd_base.specs.declared.hash.Hash256.{Hash256};
 ghost use Rattle.cd_cell.specs.declared.kind.Kind.TheVariants.{Update};
 ghost use Rattle.cd_cell.specs.Tree.{Tree, info_of, kind_of, mask_of, IsWellFormed};

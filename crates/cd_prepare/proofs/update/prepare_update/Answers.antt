@@ -1,5 +1,5 @@
 -- The update is well-formed and of mask 0, so what is grafted of it is too; over an old tree its faults are the tree's.
-use Rattle.std.proofs.Common.{◌≡◌, Contains, Some, ap, ap₂, sym, subst, ◌∙◌, ◌⊎◌, ⊎_elim}
+use Rattle.std.proofs.Common.{◌≡◌, Contains, Some, ap, ap₂, sym, subst, ◌∙◌, ◌⊎◌, ⊎_elim, [], ◌∷◌}
 use Rattle.cd_cell.specs.declared.info.ChildInfo.{ChildInfo}
 use Rattle.cd_cell.specs.FaceView.{FaceView}
 use Rattle.cd_cell.specs.Infos.{rep_of_info}
