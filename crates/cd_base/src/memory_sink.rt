@@ -74,7 +74,7 @@ impl Sink for SteadySink {
 /// A sink in memory of which chosen calls fail, as a test wants it. A call that can't grow fails and is counted too.
 #[derive(Drop)]
 pub struct MemorySink {
-    bytes: Vec<u8>,
+    sink: SteadySink,
     fails: Vec<u64>,
     calls: u64,
     faults: u64,
@@ -85,7 +85,7 @@ impl Model for MemorySink {
 
     ghost Value = { SinkView };
 
-    ghost view = { λ s. record { taken = s.bytes.items; fails = s.fails.items; calls = s.calls; faults = s.faults } };
+    ghost view = { λ s. record { taken = s.sink.taken; fails = s.fails.items; calls = s.calls; faults = s.faults } };
 }
 
 impl MemorySink {
@@ -94,7 +94,7 @@ impl MemorySink {
         ensures { result ≡ record { taken = []; fails = fails.items; calls = 0; faults = 0 } }
     {
         MemorySink {
-            bytes: Vec::new(alloc),
+            sink: SteadySink::new(alloc),
             fails,
             calls: 0,
             faults: 0,
@@ -105,7 +105,7 @@ impl MemorySink {
     pub fn taken(&self) -> &[u8]
         ensures { result.now ≡ self.now.taken }
     {
-        &self.bytes
+        self.sink.taken()
     }
 
     /// How many calls failed.
@@ -134,10 +134,16 @@ impl Sink for MemorySink {
     {
         let fails = self.fails.contains(&self.calls);
         self.calls = raised(self.calls);
-        if fails || self.bytes.extend_from_slice(piece).is_err() {
+        if fails {
             self.faults = raised(self.faults);
             return Err(Failed);
         }
-        Ok(piece.len())
+        match self.sink.write(piece) {
+            Ok(count) => Ok(count),
+            Err(failed) => {
+                self.faults = raised(self.faults);
+                Err(failed)
+            }
+        }
     }
 }
