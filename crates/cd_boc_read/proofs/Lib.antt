@@ -2,13 +2,11 @@ pub mod NumberFields
 pub mod Loops
 pub mod StoredTexts
 pub mod CellLoop
-pub mod LeastHashes
-pub mod HashKeys
-pub mod ClashLaws
 pub mod StatedLaws
 pub mod FlagBits
 pub mod FieldLaws
 pub mod HeaderLaws
+pub mod PlaceLaws
 pub mod PartLaws
 pub mod TextLaws
 pub mod TextListLaws
