@@ -60,8 +60,10 @@ impl Sink for SteadySink {
     fn write(&mut self, piece: &[u8]) -> Result<usize, Failed>
         requires { 0 < length piece.now }
         ensures count { IfOk result (λ count. count ≡ length piece.now) }
-        ensures ok { OnOk result (self.new ≡ record self.old { taken = self.old.taken ++ piece.now }) }
-        ensures failed { OnErr result (self.new ≡ record self.old { faults = one_more self.old.faults }) }
+        ensures ok { OnOk result (self.new
+            ≡ record self.old { taken = self.old.taken ++ piece.now }) }
+        ensures failed { OnErr result (self.new
+            ≡ record self.old { faults = one_more self.old.faults }) }
     {
         if self.bytes.extend_from_slice(piece).is_err() {
             self.faults = raised(self.faults);
@@ -85,7 +87,12 @@ impl Model for MemorySink {
 
     ghost Value = { SinkView };
 
-    ghost view = { λ s. record { taken = s.sink.taken; fails = s.fails.items; calls = s.calls; faults = s.faults } };
+    ghost view = { λ s. record {
+      taken = s.sink.taken;
+      fails = s.fails.items;
+      calls = s.calls;
+      faults = s.faults;
+    } };
 }
 
 impl MemorySink {
@@ -128,9 +135,15 @@ impl Sink for MemorySink {
         ensures fails { Contains self.old.fails self.old.calls → IsErr result }
         ensures count { IfOk result (λ count. count ≡ length piece.now) }
         ensures ok { OnOk result (self.new
-            ≡ record self.old { taken = self.old.taken ++ piece.now; calls = one_more self.old.calls }) }
+            ≡ record self.old {
+              taken = self.old.taken ++ piece.now;
+              calls = one_more self.old.calls;
+            }) }
         ensures failed { OnErr result (self.new
-            ≡ record self.old { calls = one_more self.old.calls; faults = one_more self.old.faults }) }
+            ≡ record self.old {
+              calls = one_more self.old.calls;
+              faults = one_more self.old.faults;
+            }) }
     {
         let fails = self.fails.contains(&self.calls);
         self.calls = raised(self.calls);

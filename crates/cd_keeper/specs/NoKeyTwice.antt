@@ -1,4 +1,4 @@
--- The keys of a change: no key is changed twice.
+-- Trusted: the keys of a change: no key is changed twice.
 use Rattle.std.specs.Prelude.{◌≡◌, ℕ, Bool, false, List, ◌++◌}
 use Rattle.std.specs.Ordering.{nat_cmp, eq_by_cmp}
 use Rattle.std.specs.Cmp.Lexicographic.{slice_cmp}

@@ -23,15 +23,22 @@ impl Model for Batch {
 
     ghost Value = { Change };
 
-    ghost view = { λ b. change_of_lists b.put_cells.items b.drop_cells.items b.put_descs.items b.drop_descs.items };
+    ghost view = { λ b. change_of_lists b.put_cells.items b.drop_cells.items
+        b.put_descs.items b.drop_descs.items };
 
-    ghost invariant = { λ b. HasNoKeyTwice (change_of_lists b.put_cells.items b.drop_cells.items b.put_descs.items b.drop_descs.items) };
+    ghost invariant = { λ b. HasNoKeyTwice (change_of_lists b.put_cells.items b.drop_cells.items
+        b.put_descs.items b.drop_descs.items) };
 }
 
 impl Batch {
     /// A batch without puts and drops.
     pub fn new(alloc: Global) -> Batch
-        ensures { result ≡ record { put_cells = []; drop_cells = []; put_descs = []; drop_descs = [] } }
+        ensures { result ≡ record {
+          put_cells = [];
+          drop_cells = [];
+          put_descs = [];
+          drop_descs = [];
+        } }
     {
         Batch {
             put_cells: Vec::new(alloc),
@@ -49,8 +56,10 @@ impl Batch {
         put_descs: Vec<([u8; 80], Vec<u8>)>,
         drop_descs: Vec<[u8; 80]>,
     ) -> Batch
-        requires { HasNoKeyTwice (change_of_lists put_cells.items drop_cells.items put_descs.items drop_descs.items) }
-        ensures { result ≡ change_of_lists put_cells.items drop_cells.items put_descs.items drop_descs.items }
+        requires { HasNoKeyTwice (change_of_lists put_cells.items drop_cells.items
+            put_descs.items drop_descs.items) }
+        ensures { result ≡ change_of_lists put_cells.items drop_cells.items
+            put_descs.items drop_descs.items }
     {
         Batch {
             put_cells,
