@@ -1,10 +1,11 @@
-ghost use Rattle.std.specs.Prelude.{◌≡◌};
+ghost use Rattle.std.specs.Prelude.{◌≡◌, ◌==◌, [], length};
 
+use std::alloc::Global;
 use std::marker::Model;
 
 /// A `Vec` that contracts see as the list of its items, so that equal lists are equal values. Made from a
 /// `Vec`, and giving it back, with no memory.
-#[derive(Drop)]
+#[derive(Debug, Drop)]
 pub struct Listed<T> {
     all: Vec<T>,
 }
@@ -26,6 +27,29 @@ impl<T> From<Vec<T>> for Listed<T> {
 }
 
 impl<T> Listed<T> {
+    /// No items. Takes no memory.
+    pub fn new(alloc: Global) -> Listed<T>
+        ensures { result ≡ [] }
+    {
+        Listed {
+            all: Vec::new(alloc),
+        }
+    }
+
+    /// How many items there are.
+    pub fn len(&self) -> usize
+        ensures { result ≡ length self.now }
+    {
+        self.all.len()
+    }
+
+    /// Whether there is no item.
+    pub fn is_empty(&self) -> bool
+        ensures { result ≡ (length self.now == 0) }
+    {
+        self.all.is_empty()
+    }
+
     /// The items in place.
     pub fn as_slice(&self) -> &[T]
         ensures { result.now ≡ self.now }
