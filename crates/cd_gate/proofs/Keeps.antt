@@ -200,9 +200,11 @@ module _ {T E S : Type 0} (number : E → ℕ) (entries : T → List E) (start :
           (λ _. (
             x,
             ap (λ (n : ℕ). let u : Seat = record me.0 { role = Holding n; seen = entries x } in let m : Held = (u, (0, Some x) ∷ me.1) in m) (one j is),
-            (subst (GrewByOthers number v.lowest v.end v.seen) (sym home.2) fit.0,
+            (
+              subst (GrewByOthers number v.lowest v.end v.seen) (sym home.2) fit.0,
               below_too (sym home.2) (sym real.among) r.known,
-              ap (λ (b : S). Some b) home.3 ∙ sym real.begun),
+              ap (λ (b : S). Some b) home.3 ∙ sym real.begun,
+            ),
           )),
           (λ miss. absurd (miss (hit ∙ ap (λ (n : ℕ). n % 2 ^ 64) (one j is)))),
         ),

@@ -75,11 +75,7 @@ fn split_off<T: Journaled, C: SplitPoint>(
 impl<T: Journaled> Gate<T> {
     /// A gate round the value, for workers numbered from 0, and the seat that has all their numbers. Where memory runs
     /// out the value comes back.
-    pub fn new(
-        alloc: Global,
-        value: T,
-        workers: u16,
-    ) -> Result<(Gate<T>, GateSeat<T>), (T, Memory)>
+    pub fn new(alloc: Global, value: T, workers: u16) -> Result<(Gate<T>, GateSeat<T>), (T, Memory)>
         requires some { 0 < workers }
         requires empty { T.entries value ≡ [] }
         ensures start { IfOk result (λ made. made.0.start ≡ T.start value) }

@@ -34,5 +34,7 @@ pub(crate) type GateTable<T> = Shared<
 >;
 
 /// A seat at it.
-pub(crate) type TableSeat<T> =
-    Seat<Option<T>, SeatState<<T as Journaled>::Entry, <T as Journaled>::Start>>;
+pub(crate) type TableSeat<T> = Seat<
+    Option<T>,
+    SeatState<<T as Journaled>::Entry, <T as Journaled>::Start>,
+>;

@@ -50,8 +50,8 @@ impl Deed<Numbers> for Add {
     ghost may = { λ add start before. Unit {0} };
 
     ghost did = { λ add start before answer after. MatchResult answer
-      (λ count. (count ≡ length before) × (after ≡ before ++ record { worker = add.worker; amount = add.amount } ∷ []))
-      (λ _. after ≡ before) };
+        (λ count. (count ≡ length before) × (after ≡ before ++ record { worker = add.worker; amount = add.amount } ∷ []))
+        (λ _. after ≡ before) };
 
     fn act(self, value: &mut Numbers) -> Result<usize, Memory> {
         let count = value.notes.len();
@@ -83,9 +83,6 @@ impl<'a> Deed<Numbers> for Count<'a> {
 
     fn act(self, value: &mut Numbers) -> usize {
         let limit = value.limit;
-        self.asked
-            .iter()
-            .filter(|amount| **amount <= limit)
-            .count()
+        self.asked.iter().filter(|amount| **amount <= limit).count()
     }
 }

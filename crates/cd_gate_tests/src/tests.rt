@@ -80,15 +80,46 @@ fn seats_are_split_and_joined(rt: HostRuntime) -> Result<(), Fail> {
             return Err(error.into());
         }
     };
-    let first = gate.turn(&rt, &mut low, Add { worker: 0, amount: 5 });
+    let first = gate.turn(
+        &rt,
+        &mut low,
+        Add {
+            worker: 0,
+            amount: 5,
+        },
+    );
     let mut high = gate.split(&mut low, 9);
-    let second = gate.turn(&rt, &mut high, Add { worker: 9, amount: 6 });
+    let second = gate.turn(
+        &rt,
+        &mut high,
+        Add {
+            worker: 9,
+            amount: 6,
+        },
+    );
     let asked = [6, 7, 8];
-    let count = gate.turn(&rt, &mut low, Count { worker: 0, asked: &asked });
-    let third = gate.turn(&rt, &mut low, Add { worker: 0, amount: 8 });
+    let count = gate.turn(
+        &rt,
+        &mut low,
+        Count {
+            worker: 0,
+            asked: &asked,
+        },
+    );
+    let third = gate.turn(
+        &rt,
+        &mut low,
+        Add {
+            worker: 0,
+            amount: 8,
+        },
+    );
     gate.join(&mut low, high);
     let list = gate.close(low);
-    assert_eq!(rt; (first.ok(), second.ok(), third.ok()), (Some(0), Some(1), Some(2)));
+    assert_eq!(rt;
+        (first.ok(), second.ok(), third.ok()),
+        (Some(0), Some(1), Some(2))
+    );
     assert_eq!(rt; count, 2);
     let mut workers = [0; 3];
     for (place, note) in list.notes.iter().take(3).enumerate() {
