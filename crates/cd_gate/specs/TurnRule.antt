@@ -1,4 +1,4 @@
--- Inner: the rule of the gate's table, and what each step tells the seat that makes it. The gate's contracts don't cite it.
+-- Inner: the rule of the gate's table, and what each step tells the seat that makes it. No contract of the gate cites it.
 use Rattle.std.specs.Prelude.{◌≡◌, ◌≢◌, ◌⊎◌, ℕ, ◌+◌, ◌-◌, ◌%◌, ◌^◌, ◌<◌, ◌≤◌, List, [], ◌∷◌, All, Option, Some, None}
 use mathlib.Core.Option.{some, none}
 use mathlib.Core.Option as maybe
@@ -65,7 +65,14 @@ module _ {E S : Type 0} where
   spent_seat = record { role = Idle; lowest = 0; end = 0; seen = []; start = None; workers = 0 }
 
   abbrev pub first_seat : S → ℕ → SeatState E S
-  first_seat begin workers = record { role = Idle; lowest = 0; end = workers; seen = []; start = Some begin; workers = workers }
+  first_seat begin workers = record {
+    role = Idle;
+    lowest = 0;
+    end = workers;
+    seen = [];
+    start = Some begin;
+    workers = workers;
+  }
 
   abbrev pub below_cut : ℕ → SeatState E S → SeatState E S
   below_cut at v = record v { end = at }
@@ -89,7 +96,8 @@ module _ {E S : Type 0} (number : E → ℕ) (begin : S) (workers issued served 
   FitsRole v Idle = GrewByOthers number v.lowest v.end v.seen log
   FitsRole v (Waiting k) = GrewByOthers number v.lowest v.end v.seen log × (served ≤ k) × (k < issued)
   FitsRole v (Holding k) = (v.seen ≡ log) × (k ≡ served) × (k < issued)
-  FitsRole v (Joined m xs) = (v.lowest < m) × (m < v.end) × GrewByOthers number v.lowest m v.seen log × GrewByOthers number m v.end xs log
+  FitsRole v (Joined m xs) = (v.lowest < m) × (m < v.end)
+      × GrewByOthers number v.lowest m v.seen log × GrewByOthers number m v.end xs log
 
   pub record IsSeated (v : SeatState E S) : Type 0 where
     pub wide : v.lowest < v.end
@@ -102,7 +110,8 @@ module _ {E S : Type 0} (number : E → ℕ) (begin : S) (workers issued served 
   IsSpentOrSeated v = ((v.role ≡ Idle) × (v.end ≤ v.lowest)) ⊎ IsSeated v
 
   -- the value is at home, or a seat has it
-  abbrev pub HasSlot : {T : Type 0} → (T → List E) → (T → S) → List (maybe.Option (Option T)) → List (SeatState E S) → Type 0
+  abbrev pub HasSlot : {T : Type 0} → (T → List E) → (T → S)
+      → List (maybe.Option (Option T)) → List (SeatState E S) → Type 0
   HasSlot {T} entries start homes views =
       ((x : T) × (homes ≡ some (Some x) ∷ []) × (entries x ≡ log) × (start x ≡ begin))
       ⊎ ((homes ≡ none ∷ []) × ((j : ℕ) × (v : SeatState E S) × (get_elem? views j ≡ some v) × IsHolding v.role))
@@ -130,23 +139,37 @@ module _ {T E S : Type 0} (number : E → ℕ) (entries : T → List E) (start :
   abbrev At : Type 0
   At = Step (Option T)
 
+  -- a seat that waits for the turn of this ticket; one that has it, with the value x; one that took the value out
+  abbrev pub waiting : ℕ → Held → Held
+  waiting k m = (record m.0 { role = Waiting k }, m.1)
+
+  abbrev pub holding : ℕ → T → Held → Held
+  holding k x m = (record m.0 { role = Holding k; seen = entries x }, (0, Some x) ∷ m.1)
+
+  abbrev pub emptied : ℕ → T → Held → Held
+  emptied k x m = (record m.0 { role = Holding k; seen = entries x }, (0, None) ∷ [])
+
+  -- a seat that gave the value x back
+  abbrev pub served : T → Held → Held
+  served x m = (record m.0 { role = Idle; seen = entries x }, [])
+
   -- what a seat learns of the history when it gets the value x
   abbrev pub HasCome : SeatState E S → T → Type 0
-  HasCome v x = GrewByOthers number v.lowest v.end v.seen (entries x) × All (λ e. number e < v.workers) (entries x) × (Some (start x) ≡ v.start)
+  HasCome v x = GrewByOthers number v.lowest v.end v.seen (entries x)
+      × All (λ e. number e < v.workers) (entries x) × (Some (start x) ≡ v.start)
 
   -- the seat has a ticket, the number that was found
   abbrev pub TakesTicket : At → Held → ℕ → Held → Type 0
-  TakesTicket st m n m' = (k : ℕ) × (n ≡ k % 2 ^ 64) × (m' ≡ (record m.0 { role = Waiting k }, m.1))
+  TakesTicket st m n m' = (k : ℕ) × IsTicketOf k n × (m' ≡ waiting k m)
 
   -- where the number found is its ticket, the seat has the value, and has seen its whole list
   abbrev pub LooksAtServed : At → Held → ℕ → Held → Type 0
   LooksAtServed st m n m' = (k : ℕ) → m.0.role ≡ Waiting k
-      → (n ≡ k % 2 ^ 64 → (x : T) × (m' ≡ (record m.0 { role = Holding k; seen = entries x }, (0, Some x) ∷ m.1)) × HasCome m.0 x)
-      × (n ≢ k % 2 ^ 64 → m' ≡ m)
+      → (IsTicketOf k n → (x : T) × (m' ≡ holding k x m) × HasCome m.0 x) × (n ≢ k % 2 ^ 64 → m' ≡ m)
 
   -- the value is given back, and the seat has seen its list
   abbrev pub ServesNext : At → Held → ℕ → Held → Type 0
-  ServesNext st m n m' = (x : T) → m.1 ≡ (0, Some x) ∷ [] → m' ≡ (record m.0 { role = Idle; seen = entries x }, [])
+  ServesNext st m n m' = (x : T) → m.1 ≡ (0, Some x) ∷ [] → m' ≡ served x m
 
   -- of two lists that were seen the longer one stays
   abbrev pub KeepsLonger : At → Held → ℕ → Held → Type 0
@@ -159,8 +182,9 @@ module _ {T E S : Type 0} (number : E → ℕ) (entries : T → List E) (start :
 
   -- the turn of this ticket was waited for, and the value x came with it
   abbrev pub GotTurn : Held → ℕ → Held → T → Type 0
-  GotTurn m k m' x = (m' ≡ (record m.0 { role = Holding k; seen = entries x }, (0, Some x) ∷ m.1)) × HasCome m.0 x
+  GotTurn m k m' x = (m' ≡ holding k x m) × HasCome m.0 x
 
   -- the turn of this ticket is done, and the value x is to be given back
   abbrev pub HasDone : Held → ℕ → T → Type 0
-  HasDone m k x = (m.0.role ≡ Holding k) × (m.1 ≡ (0, Some x) ∷ []) × GrewByTurn number m.0.lowest m.0.seen (entries x) × (Some (start x) ≡ m.0.start)
+  HasDone m k x = (m.0.role ≡ Holding k) × (m.1 ≡ (0, Some x) ∷ [])
+      × GrewByTurn number m.0.lowest m.0.seen (entries x) × (Some (start x) ≡ m.0.start)

@@ -151,7 +151,8 @@ impl<T: Journaled> Gate<T> {
     pub fn turn<D: Deed<T>, R: Wait>(&self, rt: &R, seat: &mut GateSeat<T>, deed: D) -> D::Answer
         requires seat { IsSeatOf self.now seat.old }
         requires by { D.by deed ≡ seat.old.lowest }
-        requires may { (before : List T.Entry) → MayPrecede T.number seat.old before → D.may deed self.now.start before }
+        requires may { (before : List T.Entry) → MayPrecede T.number seat.old before
+            → D.may deed self.now.start before }
         // The seat has seen more, and is else as it was.
         ensures seat { seat.new ≡ record seat.old { seen = seat.new.seen } }
         ensures range { (seat.old.lowest < seat.old.end) × (seat.old.end ≤ seat.old.workers) }

@@ -3,7 +3,7 @@ ghost use Rattle.std.specs.Prelude.{◌≡◌, ℕ, ◌<◌, [], ◌∷◌, Some
 ghost use Rattle.cd_gate.specs.declared.seat_state.Role.TheVariants.{Idle, Waiting, Holding};
 ghost use Rattle.cd_gate.specs.Gates.{IsGateTable, IsSameSeat, IsResting};
 ghost use Rattle.cd_gate.specs.Histories.{GrewByOthers, GrewByTurn};
-ghost use Rattle.cd_gate.specs.TurnRule.{IsTicketOf, HasCome, GotTurn, HasDone, grown_seat};
+ghost use Rattle.cd_gate.specs.TurnRule.{IsTicketOf, HasCome, GotTurn, HasDone, waiting, emptied, served, grown_seat};
 
 use crate::journaled::Journaled;
 use crate::plays::{JoinRanges, KeepLonger, LookAtServed, ServeNext, TakeTicket};
@@ -16,7 +16,7 @@ fn take_ticket<T: Journaled>(table: &GateTable<T>, seat: &mut TableSeat<T>) -> u
     requires idle { seat.old.me.0.role ≡ Idle }
     requires some { seat.old.me.0.lowest < seat.old.me.0.end }
     ensures same { IsSameSeat seat.old seat.new }
-    ensures ticket { (k : ℕ) × IsTicketOf k result × (seat.new.me ≡ (record seat.old.me.0 { role = Waiting k }, seat.old.me.1)) }
+    ensures ticket { (k : ℕ) × IsTicketOf k result × (seat.new.me ≡ waiting T.number T.entries T.start k seat.old.me) }
 {
     table.fetch_add::<TakeTicket>(seat, 0, 1)
 }
@@ -51,7 +51,7 @@ fn serve_next<T: Journaled>(table: &GateTable<T>, seat: &mut TableSeat<T>)
     requires some { seat.old.me.0.lowest < seat.old.me.0.end }
     ensures same { IsSameSeat seat.old seat.new }
     ensures seen { (x : T) → seat.old.me.1 ≡ (0, Some x) ∷ []
-        → seat.new.me ≡ (record seat.old.me.0 { role = Idle; seen = T.entries x }, []) }
+        → seat.new.me ≡ served T.number T.entries T.start x seat.old.me }
 {
     table.fetch_add::<ServeNext>(seat, 1, 1);
     table.wake_all(1);
@@ -66,7 +66,7 @@ pub(crate) fn take_value<T: Journaled, R: Wait>(
     requires table { IsGateTable table.now.table_id seat.old.table_id }
     requires rests { IsResting T.number seat.old }
     ensures same { IsSameSeat seat.old seat.new }
-    ensures holds { (k : ℕ) × (seat.new.me ≡ (record seat.old.me.0 { role = Holding k; seen = T.entries result }, (0, None) ∷ [])) }
+    ensures holds { (k : ℕ) × (seat.new.me ≡ emptied T.number T.entries T.start k result seat.old.me) }
     ensures come { HasCome T.number T.entries T.start seat.old.me.0 result }
 {
     let ticket = take_ticket(table, seat);
@@ -83,7 +83,7 @@ pub(crate) fn give_back<T: Journaled>(table: &GateTable<T>, seat: &mut TableSeat
     requires grew { GrewByTurn T.number seat.old.me.0.lowest seat.old.me.0.seen (T.entries value) }
     requires start { Some (T.start value) ≡ seat.old.me.0.start }
     ensures same { IsSameSeat seat.old seat.new }
-    ensures seen { seat.new.me ≡ (record seat.old.me.0 { role = Idle; seen = T.entries value }, []) }
+    ensures seen { seat.new.me ≡ served T.number T.entries T.start value seat.old.me }
 {
     let left = table.exchange(seat, 0, Some(value));
     let None = left else { unreachable!() };
@@ -103,8 +103,10 @@ pub(crate) fn take_in<T: Journaled>(
     requires adjacent { other.me.0.lowest ≡ seat.old.me.0.end }
     ensures same { IsSameSeat seat.old seat.new }
     ensures grown { seat.new.me ≡ (grown_seat seat.old.me.0 other.me.0, []) }
-    ensures mine { GrewByOthers T.number seat.old.me.0.lowest seat.old.me.0.end seat.old.me.0.seen seat.new.me.0.seen }
-    ensures theirs { GrewByOthers T.number other.me.0.lowest other.me.0.end other.me.0.seen seat.new.me.0.seen }
+    ensures mine { GrewByOthers T.number seat.old.me.0.lowest seat.old.me.0.end
+        seat.old.me.0.seen seat.new.me.0.seen }
+    ensures theirs { GrewByOthers T.number other.me.0.lowest other.me.0.end
+        other.me.0.seen seat.new.me.0.seen }
 {
     table.join_seat::<JoinRanges>(seat, other);
     table.load::<KeepLonger>(seat, 0);

@@ -50,7 +50,8 @@ impl Deed<Numbers> for Add {
     ghost may = { λ add start before. Unit {0} };
 
     ghost did = { λ add start before answer after. MatchResult answer
-        (λ count. (count ≡ length before) × (after ≡ before ++ record { worker = add.worker; amount = add.amount } ∷ []))
+        (λ count. (count ≡ length before)
+        × (after ≡ before ++ record { worker = add.worker; amount = add.amount } ∷ []))
         (λ _. after ≡ before) };
 
     fn act(self, value: &mut Numbers) -> Result<usize, Memory> {
