@@ -661,8 +661,7 @@ fn counts(
 ) -> Result<(usize, usize, usize, ChildInfo), Fail> {
     let before = root_of(old)?;
     let faces: Vec<Option<Face>> = old
-        .cells
-        .as_slice()
+        .cells()
         .iter()
         .map(|face| Some(*face))
         .collect(alloc)?;
