@@ -10,6 +10,8 @@ pub mod FlagBits
 pub mod FieldLaws
 pub mod HeaderLaws
 pub mod PlaceLaws
+pub mod FrameFaults
+pub mod TextFaults
 pub mod PartLaws
 pub mod TextLaws
 pub mod TextListLaws

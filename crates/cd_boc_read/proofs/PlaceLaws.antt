@@ -50,7 +50,7 @@ byte_found fault bytes place (b ∷ rest) s x e =
       record { is = ap (drop 1) s.is ∙ drop-drop 1 place bytes; within = omega (arith, length-standing bytes place (b ∷ rest) s) },
     )
 
-Stands-at : (bytes : List ℕ) (p q : ℕ) (rest : List ℕ) → p ≡ q → Stands bytes p rest → Stands bytes q rest
+pub Stands-at : (bytes : List ℕ) (p q : ℕ) (rest : List ℕ) → p ≡ q → Stands bytes p rest → Stands bytes q rest
 Stands-at bytes p q rest same s = subst (λ (n : ℕ). Stands bytes n rest) same s
 
 -- ---- the header
