@@ -6,7 +6,7 @@ use Rattle.cd_base.specs.Numbers.{from_little}
 use Rattle.cd_base.specs.Checksum.{crc32c}
 use Rattle.cd_base.specs.declared.hash.Hash256.{Hash256}
 use Rattle.cd_cell.specs.declared.cell_fault.CellFault.{CellFault}
-use Rattle.cd_cell.specs.CellFaults.{first_byte, fault_of}
+use Rattle.cd_cell.specs.CellFaults.{first_byte, face_fault}
 use Rattle.cd_cell.specs.StoredText.{stored_text}
 use Rattle.cd_cell.specs.Tree.{Tree, mask_of, info_of, face_of, rep_of}
 use Rattle.cd_cell.specs.Unfolding.{unfolding_of}
@@ -153,7 +153,7 @@ module _ (H : List ℕ → Hash256) (bytes : List ℕ) where
     pub text : Text
     pub tree : Tree
     pub is : IsCellOf bytes cell text tree
-    pub refused : fault_of (face_of H tree) ≡ Some fault
+    pub refused : face_fault (face_of H tree) ≡ Some fault
 
   -- the mask that the text states isn't the cell's
   pub record IsOtherMask (cell : ℕ) : Type 0 where

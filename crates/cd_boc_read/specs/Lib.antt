@@ -5,4 +5,3 @@ pub mod FaultRows
 pub mod CellFaults
 pub mod Reading
 pub mod BagFaults
-pub mod Clashes

@@ -14,6 +14,3 @@ pub use laws::{all_cells_of_a_state_stand_for_it, new_cells_stand_for_the_applie
 pub use prepare_fault::PrepareFault;
 pub use update::prepare_update;
 pub use zero::{all_cells, prepare_zero};
-
-#[cfg(test)]
-mod tests;

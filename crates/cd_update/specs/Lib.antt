@@ -2,9 +2,7 @@ pub mod EachOnce
 pub mod Places
 pub mod Nodes
 pub mod UpdateFaults
-pub mod Indexes
 pub mod Visits
 pub mod Pairing
 pub mod Faults
-pub mod Checked
 pub mod Grafts

@@ -6,7 +6,6 @@ mod graft_fault;
 mod grafting;
 mod hashes;
 mod hidden;
-mod index;
 mod known;
 mod own;
 mod pair_fault;
@@ -25,8 +24,3 @@ pub use pair_fault::PairFault;
 pub use pairing::pair_old;
 pub use update::Update;
 pub use update_fault::UpdateFault;
-
-#[cfg(test)]
-mod checked;
-#[cfg(test)]
-mod tests;
