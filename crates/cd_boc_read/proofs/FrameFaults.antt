@@ -11,10 +11,11 @@ use Rattle.cd_boc_write.specs.declared.shape.Shape.{Shape}
 use Rattle.cd_boc_read.specs.declared.bag_fault.BagFault.{BagFault}
 use Rattle.cd_boc_read.specs.declared.bag_fault.BagFault.TheVariants.{Magic, Flags, Sizes, Cut, Roots, Absent, Limit, RootIndex, Extra, Crc}
 use Rattle.cd_boc_read.specs.declared.counts.Counts.{Counts}
-use Rattle.cd_boc_read.specs.Reading.{◌>>=◌, require, part_at, byte_at, number_at, numbers_in, numbers_at, shape_of, shape_at, are_flags, are_sizes, counts_at, are_cells, roots_at, index_len, end_at, FrameParts, frame_at}
-use Rattle.cd_boc_read.specs.Places.{number_in, stated_shape, stated_cells, stated_roots, stated_absent, stated_total, stated_root, roots_start, index_start, data_start, data_end, bag_end}
+use Rattle.cd_boc_read.specs.Reading.{numbers_in, numbers_at, shape_of, shape_at, are_flags, are_sizes, counts_at, are_cells, roots_at, index_len, end_at, FrameParts, frame_at}
+use Rattle.cd_base.specs.Reading.{◌>>=◌, require, part_at, byte_at, number_at}
+use Rattle.cd_boc_read.specs.Places.{number_in, stated_shape, stated_cells, stated_roots, stated_absent, stated_total, stated_root, roots_start, index_start, data_start, data_end, bag_end, stated_data}
 use Rattle.cd_boc_read.specs.FaultRows.{Holds}
-use Rattle.cd_boc_read.proofs.FieldLaws.{ok_is, by_ok, by_test, passed}
+use Rattle.cd_base.proofs.ReadingLaws.{ok_is, by_ok, by_test, no_fault}
 use Rattle.cd_boc_read.proofs.PlaceLaws.{Stands, AreStated, Stands-start, Stands-at, length-standing, part_found, byte_found, number_found, shape_found, counts_found}
 use Rattle.cd_boc_read.proofs.NumberFields.{length-numbers_in}
 
@@ -139,7 +140,7 @@ counts_fail H bytes rest e at is =
 -- ---- the roots
 
 -- what stands within the first bytes stands in all of them
-within_front : (n m k : ℕ) (xs : List ℕ) → n + m ≤ k → take m (drop n (take k xs)) ≡ take m (drop n xs)
+pub within_front : (n m k : ℕ) (xs : List ℕ) → n + m ≤ k → take m (drop n (take k xs)) ≡ take m (drop n xs)
 within_front n m k xs fits =
     let split : k ≡ n + (k - n) = omega arith in
     ap (λ j. take m (drop n (take j xs))) split
@@ -328,3 +329,37 @@ frame_fails H bytes e is =
     by_err (counts_at cut (stated_shape bytes) shape.1) _ e k1 (λ wrong. counts_fail H bytes shape.1 e f0.1 wrong) (λ counts e1 k2.
     let f1 = counts_found cut (stated_shape bytes) bytes shape.1 counts f0.1 e1 in
     behind_fails H bytes counts.1 e f1.1 (subst (λ (c : Counts). behind_counts bytes c counts.1 ≡ Err e) (counts_are bytes counts.0 f1.0) k2)))
+
+-- the parts of a frame that was read are those at their places
+pub record IsFrameFound (bytes : List ℕ) (p : FrameParts) : Type 0 where
+  pub shape : p.shape ≡ stated_shape bytes
+  pub cells : p.cells ≡ stated_cells bytes
+  pub index : p.index ≡ take (index_len (stated_shape bytes) (stated_cells bytes)) (drop (index_start bytes) bytes)
+  pub cell_data : p.cell_data ≡ stated_data bytes
+  pub within : data_end bytes ≤ length bytes
+
+behind_found : (bytes rest : List ℕ) (p : FrameParts) → Stands bytes (roots_start bytes) rest → behind_counts bytes (counts_stated bytes) rest ≡ Ok p → IsFrameFound bytes p
+behind_found bytes rest p at is =
+    let cut = Cut (length bytes) in
+    let s = stated_shape bytes in
+    let counts = counts_stated bytes in
+    by_ok (roots_at cut s.size counts rest) _ p is (λ roots e0 k0.
+    let f0 = roots_found cut bytes rest s.size counts at roots e0 in
+    by_ok (part_at cut (index_len s counts.cells) roots.1) _ p k0 (λ index e1 k1.
+    let f1 = part_found cut bytes (index_start bytes) roots.1 f0 (index_len s counts.cells) index e1 in
+    by_ok (part_at cut counts.total index.1) _ p k1 (λ cell_data e2 k2.
+    let f2 = part_found cut bytes (data_start bytes) index.1 f1.1 counts.total cell_data e2 in
+    by_ok (end_at cut s.has_crc (take (length bytes - length cell_data.1) bytes) cell_data.1) _ p k2 (λ u e3 k3.
+    subst (IsFrameFound bytes) (ok_is (record { shape = s; cells = counts.cells; roots = roots.0; index = index.0; cell_data = cell_data.0 }) p k3)
+    (record { shape = refl; cells = refl; index = f1.0; cell_data = f2.0; within = f2.1.within })))))
+
+pub frame_found : (bytes : List ℕ) (p : FrameParts) → frame_at bytes ≡ Ok p → IsFrameFound bytes p
+unfolding frame_at
+frame_found bytes p is =
+    let cut = Cut (length bytes) in
+    by_ok (shape_at cut bytes) _ p is (λ shape e0 k0.
+    let f0 = shape_found cut bytes shape e0 in
+    let k1 : behind_shape bytes (stated_shape bytes) shape.1 ≡ Ok p = subst (λ (s : Shape). behind_shape bytes s shape.1 ≡ Ok p) f0.0 k0 in
+    by_ok (counts_at cut (stated_shape bytes) shape.1) _ p k1 (λ counts e1 k2.
+    let f1 = counts_found cut (stated_shape bytes) bytes shape.1 counts f0.1 e1 in
+    behind_found bytes counts.1 p f1.1 (subst (λ (c : Counts). behind_counts bytes c counts.1 ≡ Ok p) (counts_are bytes counts.0 f1.0) k2)))

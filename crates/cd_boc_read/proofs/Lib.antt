@@ -9,6 +9,7 @@ pub mod HeaderLaws
 pub mod PlaceLaws
 pub mod FrameFaults
 pub mod TextFaults
+pub mod RowLaws
 pub mod PartLaws
 pub mod TextLaws
 pub mod TextListLaws

@@ -11,12 +11,17 @@ use Rattle.cd_boc_write.specs.CellTexts.{Text}
 use Rattle.cd_boc_read.specs.declared.bag_fault.BagFault.{BagFault}
 use Rattle.cd_boc_read.specs.declared.bag_fault.BagFault.TheVariants.{Descriptor, Length, Completion, Order, Index}
 use Rattle.cd_boc_read.specs.Grammar.{end_of_entry}
-use Rattle.cd_boc_read.specs.Reading.{◌>>=◌, require, part_at, numbers_at, stored_bytes, is_completed, is_later, text_of, parts_at, text_at, is_end, texts_at}
+use Rattle.cd_boc_read.specs.Reading.{numbers_at, stored_bytes, is_completed, is_later, text_of, parts_at, text_at, is_end, texts_at}
+use Rattle.cd_base.specs.Reading.{◌>>=◌, require, part_at}
 use Rattle.cd_boc_read.specs.Places.{number_in, stated_shape, stated_cells, stated_total, stated_data, text_len, text_start, stated_start, text_from, stated_first, stated_second, held_end, stated_last, stated_ref, stated_entry, index_start}
 use Rattle.cd_boc_read.specs.FaultRows.{Holds}
-use Rattle.cd_boc_read.proofs.FieldLaws.{ok_is, by_ok, by_test}
+use Rattle.cd_base.proofs.ReadingLaws.{ok_is, by_ok, by_test}
 use Rattle.cd_boc_read.proofs.PlaceLaws.{Stands, Stands-at, length-standing, part_found}
 use Rattle.cd_boc_read.proofs.FrameFaults.{err_is, by_err, by_fail, not_both, part_fails, numbers_fail, numbers_found}
+
+pub text_start-first : (size : ℕ) (cell_data : List ℕ) → text_start size cell_data 0 ≡ 0
+unfolding text_start
+text_start-first size cell_data = refl
 
 text_start-next : (size : ℕ) (cell_data : List ℕ) (cell : ℕ) → text_start size cell_data (cell + 1) ≡ text_start size cell_data cell + text_len size (drop (text_start size cell_data cell) cell_data)
 unfolding text_start
@@ -164,3 +169,49 @@ module _ (H : List ℕ → Hash256) (bytes : List ℕ) (counted : length (stated
         let is-second : b ≡ second = ap (λ (w : List ℕ). get_or w 1 0) at.is in
         by_test (leb (a % 8) 4) (Descriptor number) _ x is (λ few k.
         parts_end more x (behind_two a b more at) (sym (ap₂ (λ m n. parts_at fault s.size cells number m n more) is-first is-second) ∙ k))
+
+  -- ---- all texts
+
+  -- what is left of an index
+  abbrev index_from : List ℕ → ℕ → List ℕ
+  index_from index number = drop (number * s.off_bytes) index
+
+  index_next : (index : List ℕ) (number : ℕ) → drop s.off_bytes (index_from index number) ≡ index_from index (number + 1)
+  index_next index number = drop-drop s.off_bytes (number * s.off_bytes) index ∙ ap (λ n. drop n index) (let next : number * s.off_bytes + s.off_bytes ≡ (number + 1) * s.off_bytes = omega arith in next)
+
+  used_here : (number : ℕ) (rest : List ℕ) → Stands cell_data (stated_start bytes number) rest → total - length rest ≡ stated_start bytes number
+  used_here number rest at = omega (arith, length-standing cell_data (stated_start bytes number) rest at, counted)
+
+  module _ (index : List ℕ) (entries : s.has_index ≡ true → (number : ℕ) → number < cells → from_big (take s.off_bytes (index_from index number)) ≡ stated_entry bytes number) where
+    wrong_end : (number end : ℕ) → number < cells → is_end s (index_from index number) end ≡ false → (s.has_index ≡ true) × (end_of_entry s (stated_entry bytes number) ≢ end)
+    unfolding is_end
+    wrong_end number end in' wrong =
+        by_index s.has_index refl wrong
+      where
+        by_index : (has : Bool) → s.has_index ≡ has → cond has (eqb (end_of_entry s (from_big (take s.off_bytes (index_from index number)))) end) true ≡ false → (s.has_index ≡ true) × (end_of_entry s (stated_entry bytes number) ≢ end)
+        by_index true is other = (is, subst (λ n. end_of_entry s n ≢ end) (entries is number in') (eqb-false (end_of_entry s (from_big (take s.off_bytes (index_from index number)))) end other))
+        by_index false is other = absurd (true≢false other)
+
+    pub texts_fail : (left number : ℕ) (rest : List ℕ) (e : BagFault) → number + left ≡ cells → Stands cell_data (stated_start bytes number) rest → texts_at s cells total left number (index_from index number) rest ≡ Err e → Holds H bytes e
+    unfolding texts_at
+    texts_fail zero number rest e all at is =
+        let used = used_here number rest at in
+        by_fail (eqb (length rest) 0) (Length total (total - length rest) number) _ e is
+        (λ left same.
+        subst (Holds H bytes) (ap (λ n. Length total n number) (sym used) ∙ same)
+        (record { stated_is = refl; used_is = refl; wrong = inr ((let last : number ≡ cells = omega arith in last), omega (arith, length-standing cell_data (stated_start bytes number) rest at, counted, eqb-false (length rest) 0 left)) })) (λ none k. absurd cc)
+    texts_fail (suc left) number rest e all at is =
+        let used = used_here number rest at in
+        let in' : number < cells = omega arith in
+        let fault = Length total (total - length rest) number in
+        let same : fault ≡ Length total (stated_start bytes number) number = ap (λ n. Length total n number) used in
+        by_err (text_at fault s.size cells number rest) _ e is
+        (λ wrong. text_fails number in' rest e at (sym (ap (λ f. text_at f s.size cells number rest) same) ∙ wrong)) (λ text e0 k0.
+        let next-at = text_end number in' rest text at (sym (ap (λ f. text_at f s.size cells number rest) same) ∙ e0) in
+        let end = used_here (number + 1) text.1 next-at in
+        by_fail (is_end s (index_from index number) (total - length text.1)) (Index number) _ e k0
+        (λ wrong same-fault.
+        let w = wrong_end number (total - length text.1) in' wrong in
+        subst (Holds H bytes) same-fault (record { number = in'; there = omega (arith, next-at.within, counted); announced = w.0; differ = subst (λ n. end_of_entry s (stated_entry bytes number) ≢ n) end w.1 })) (λ ended k1.
+        by_err (texts_at s cells total left (number + 1) (drop s.off_bytes (index_from index number)) text.1) _ e k1
+        (λ wrong. texts_fail left (number + 1) text.1 e (omega arith) next-at (ap (λ (w : List ℕ). texts_at s cells total left (number + 1) w text.1) (sym (index_next index number)) ∙ wrong)) (λ others e2 k2. absurd cc)))

@@ -1,16 +1,15 @@
 -- Trusted: what each fault says of the bytes that are no bag, in the order in which faults are told. Fields of the bytes
 -- are those of `Places`; the words on cells are those of the grammar.
-use Rattle.std.specs.Prelude.{◌≡◌, ◌≢◌, ℕ, ◌+◌, ◌/◌, ◌%◌, ◌<◌, ◌≤◌, ◌⊎◌, true, false, List, length, take, drop, slice_index, slice_index_or, Some, IsSome, IsSomeAnd}
-use Rattle.std.specs.Ordering.{is_lt}
+use Rattle.std.specs.Prelude.{◌≡◌, ◌≢◌, ℕ, ◌+◌, ◌/◌, ◌%◌, ◌<◌, ◌≤◌, ◌⊎◌, true, List, length, map, take, drop, slice_index, slice_index_or, Some, IsSome, IsSomeAnd}
 use Rattle.cd_base.specs.Numbers.{from_little}
 use Rattle.cd_base.specs.Checksum.{crc32c}
 use Rattle.cd_base.specs.declared.hash.Hash256.{Hash256}
 use Rattle.cd_cell.specs.declared.cell_fault.CellFault.{CellFault}
 use Rattle.cd_cell.specs.CellFaults.{first_byte, face_fault}
 use Rattle.cd_cell.specs.StoredText.{stored_text}
-use Rattle.cd_cell.specs.Tree.{Tree, mask_of, info_of, face_of, rep_of}
-use Rattle.cd_cell.specs.Unfolding.{unfolding_of}
-use Rattle.cd_cell.specs.Export.{hash_cmp}
+use Rattle.cd_cell.specs.Tree.{Tree, mask_of, info_of, face_of}
+use Rattle.cd_cell.specs.Unfolding.{unfold_from, unfolding_of}
+use Rattle.cd_cell.specs.Clashes.{clash_of}
 use Rattle.cd_boc_write.specs.Frames.{Frame, frame_text}
 use Rattle.cd_boc_write.specs.CellTexts.{Text, entries_of_texts}
 use Rattle.cd_boc_read.specs.declared.bag_fault.BagFault.{BagFault}
@@ -169,23 +168,12 @@ module _ (H : List ℕ → Hash256) (bytes : List ℕ) where
     pub is : IsCellOf bytes cell text tree
     pub differ : IsSomeAnd text.stored (λ stored. stored ≢ stored_text (info_of H tree))
 
-  -- two different cells have this hash
-  pub record AreClashing (texts : List Text) (a b : ℕ) (hash : Hash256) : Type 0 where
-    pub left : a < length texts
-    pub right : b < length texts
-    pub left_hash : rep_of H (unfolding_of (entries_of_texts texts) a) ≡ hash
-    pub right_hash : rep_of H (unfolding_of (entries_of_texts texts) b) ≡ hash
-    pub differ : face_of H (unfolding_of (entries_of_texts texts) a) ≢ face_of H (unfolding_of (entries_of_texts texts) b)
-
-  -- the least hash that two different cells have
+  -- two different cells have this hash, and it is the least such hash
   pub record IsLeastClash (hash : Hash256) : Type 0 where
     pub frame : Frame
     pub texts : List Text
     pub framed : AreFramed bytes frame texts
-    pub a : ℕ
-    pub b : ℕ
-    pub clash : AreClashing texts a b hash
-    pub least : (c d : ℕ) (other : Hash256) → AreClashing texts c d other → is_lt (hash_cmp other hash) ≡ false
+    pub clash : clash_of H (map (face_of H) (unfold_from 0 (entries_of_texts texts))) ≡ Some hash
 
   -- ---- the rows, in order
 
