@@ -1,6 +1,6 @@
 -- The bag that read texts make, what its bytes spell, and that what is spelt has no fault.
 use Rattle.std.proofs.Common.{◌≡◌, ℕ, zero, suc, ◌+◌, ◌<◌, ◌≤◌, List, [], ◌∷◌, length, get_or, take, map, Contains, None, Result, Ok, Err, refl, sym, ap, ap₂, subst, ◌∙◌, arith}
-use Rattle.std.specs.Option.{option_or, option_map}
+use Rattle.std.specs.Option.{option_map}
 use Rattle.std.proofs.lemmas.List.{length-map, get_or_default}
 use Rattle.std.proofs.lemmas.List.Elements.{Contains-get_or}
 use Rattle.cd_base.specs.declared.hash.Hash256.{Hash256}
@@ -23,8 +23,6 @@ use Rattle.cd_boc_read.specs.declared.cell_text.CellText.{CellText}
 use Rattle.cd_boc_read.specs.Grammar.{IsBagOf, IsStated, Spells}
 use Rattle.cd_boc_read.specs.Views.{text_view, text_views}
 use Rattle.cd_boc_read.specs.Reading.{bag_at}
-use Rattle.cd_boc_read.specs.Places.{stated_cells}
-use Rattle.cd_boc_read.proofs.PlaceLaws.{bag_counted}
 use Rattle.cd_boc_read.specs.CellFaults.{faces_of_texts, cells_fault, fault_of_texts}
 use Rattle.cd_cell.specs.Clashes.{clash_of}
 use Rattle.cd_boc_read.specs.BagFaults.{AreTexts, fault_in, bag_fault}

@@ -1,9 +1,8 @@
 -- Numbers one behind another that are read are those that were written, and what was written is read again.
-use Rattle.std.proofs.Common.{◌≡◌, ℕ, zero, suc, ◌-◌, ◌*◌, ◌%◌, ◌^◌, ◌<◌, ◌≤◌, Bool, true, false, cond, ltb, List, [], ◌∷◌, ◌++◌, length, get_or, subst, take, drop, Result, Ok, Err, refl, sym, ap, ◌∙◌, append_assoc, inl, inr, arith}
-use Rattle.std.proofs.lemmas.Bool.{ltb-false, le-ltb, cases_lt}
-use Rattle.std.proofs.lemmas.List.{take_at, drop_at, take-append-drop, length-append, length-take, get_or_append_left, get_or-append_right, nil_from_length}
+use Rattle.std.proofs.Common.{◌≡◌, ℕ, zero, suc, ◌*◌, ◌^◌, ◌<◌, List, [], ◌∷◌, ◌++◌, length, get_or, subst, take, drop, Ok, refl, sym, ap, ◌∙◌, arith}
+use Rattle.std.proofs.lemmas.List.{take_at, drop_at, take-append-drop, length-append, length-take, nil_from_length}
 use Rattle.std.proofs.lemmas.List.Concat.{flat_map-cons}
-use Rattle.cd_base.specs.Numbers.{IsBytes, big, little, from_big}
+use Rattle.cd_base.specs.Numbers.{IsBytes, big, from_big}
 use Rattle.cd_base.proofs.NumberLaws.{IsBytes-take, IsBytes-drop, length-big, from_big-big, big-from_big, from_big-lt}
 use Rattle.cd_boc_write.specs.Frames.{numbers_text}
 use Rattle.cd_boc_read.specs.declared.bag_fault.BagFault.{BagFault}

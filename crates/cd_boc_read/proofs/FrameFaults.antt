@@ -1,6 +1,6 @@
 -- A fault of the frame is a row that holds of the bytes.
-use Rattle.std.proofs.Common.{◌≡◌, ◌≢◌, ℕ, zero, suc, ◌+◌, ◌-◌, ◌*◌, ◌/◌, ◌%◌, ◌<◌, ◌≤◌, ◌⊎◌, ◌&&◌, ◌||◌, not, Bool, true, false, cond, eqb, leb, ltb, List, [], ◌∷◌, length, get_or, subst, take, drop, Result, Ok, Err, refl, sym, ap, ap₂, ◌∙◌, inl, inr, add-zero, arith}
-use Rattle.std.proofs.lemmas.Bool.{ltb-true, ltb-false, leb-true, eqb-true, eqb-false, true≢false, false≢true}
+use Rattle.std.proofs.Common.{◌≡◌, ◌≢◌, ℕ, zero, suc, ◌+◌, ◌-◌, ◌*◌, ◌/◌, ◌%◌, ◌<◌, ◌≤◌, ◌⊎◌, ◌&&◌, ◌||◌, not, Bool, true, false, cond, eqb, leb, ltb, List, [], ◌∷◌, length, get_or, subst, take, drop, Result, Ok, Err, refl, ap, ◌∙◌, inl, inr, add-zero, arith}
+use Rattle.std.proofs.lemmas.Bool.{ltb-true, ltb-false, eqb-true, eqb-false, true≢false}
 use Rattle.std.proofs.lemmas.Bool.Decides.{nat_tests}
 use Rattle.std.proofs.lemmas.List.{drop-drop, drop-take, take-take, take_all, length-drop, length-take-le}
 use Rattle.std.proofs.Math.Nat.{mul-le-mul_right}
@@ -11,11 +11,11 @@ use Rattle.cd_boc_write.specs.declared.shape.Shape.{Shape}
 use Rattle.cd_boc_read.specs.declared.bag_fault.BagFault.{BagFault}
 use Rattle.cd_boc_read.specs.declared.bag_fault.BagFault.TheVariants.{Magic, Flags, Sizes, Cut, Roots, Absent, Limit, RootIndex, Extra, Crc}
 use Rattle.cd_boc_read.specs.declared.counts.Counts.{Counts}
-use Rattle.cd_boc_read.specs.Reading.{numbers_in, numbers_at, shape_of, shape_at, are_flags, are_sizes, counts_at, are_cells, roots_at, index_len, end_at, FrameParts, frame_at}
+use Rattle.cd_boc_read.specs.Reading.{numbers_in, numbers_at, shape_at, are_flags, are_sizes, counts_at, are_cells, roots_at, index_len, end_at, FrameParts, frame_at}
 use Rattle.cd_base.specs.Reading.{◌>>=◌, require, part_at, byte_at, number_at}
-use Rattle.cd_boc_read.specs.Places.{number_in, stated_shape, stated_cells, stated_roots, stated_absent, stated_total, stated_root, roots_start, index_start, data_start, data_end, bag_end, stated_data}
+use Rattle.cd_boc_read.specs.Places.{number_in, stated_shape, stated_cells, stated_roots, stated_total, roots_start, index_start, data_start, data_end, bag_end, stated_data}
 use Rattle.cd_boc_read.specs.FaultRows.{Holds}
-use Rattle.cd_base.proofs.ReadingLaws.{ok_is, by_ok, by_test, no_fault}
+use Rattle.cd_base.proofs.ReadingLaws.{ok_is, by_ok}
 use Rattle.cd_boc_read.proofs.PlaceLaws.{Stands, AreStated, Stands-start, Stands-at, length-standing, part_found, byte_found, number_found, shape_found, counts_found}
 use Rattle.cd_boc_read.proofs.NumberFields.{length-numbers_in}
 

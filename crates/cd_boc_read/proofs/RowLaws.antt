@@ -1,24 +1,23 @@
 -- A fault of the cells is a row that holds of the bytes; and so is every fault of the bytes.
-use Rattle.std.proofs.Common.{◌≡◌, ◌≢◌, ℕ, zero, suc, ◌+◌, ◌*◌, ◌≤◌, ◌<◌, ◌⊎◌, Bool, true, false, not, ◌&&◌, ◌==◌, cond, List, [], ◌∷◌, length, get_or, take, drop, map, Option, Some, None, is_some, Result, Ok, Err, refl, sym, ap, subst, ◌∙◌, inl, inr, ⊎_elim, arith}
-use Rattle.std.specs.Prelude.{IsSome, IsSomeAnd}
+use Rattle.std.proofs.Common.{◌≡◌, ◌≢◌, ℕ, suc, ◌+◌, ◌*◌, ◌≤◌, ◌<◌, ◌⊎◌, Bool, true, false, not, ◌&&◌, ◌==◌, cond, List, [], ◌∷◌, length, get_or, take, drop, Option, Some, None, is_some, Result, Ok, Err, refl, sym, ap, subst, ◌∙◌, inl, inr, ⊎_elim, arith}
+use Rattle.std.specs.Prelude.{IsSomeAnd}
 use Rattle.std.specs.Option.{option_or, option_map}
 use Rattle.std.specs.Cmp.Lexicographic.{bytes_decides}
 use Rattle.std.proofs.lemmas.Bool.{eqb-true, eqb-false, and_parts, true≢false}
 use Rattle.cd_base.specs.Numbers.{IsBytes}
 use Rattle.cd_base.specs.declared.hash.Hash256.{Hash256}
 use Rattle.cd_cell.specs.declared.info.ChildInfo.{ChildInfo}
-use Rattle.cd_cell.specs.declared.cell_fault.CellFault.{CellFault}
 use Rattle.cd_cell.specs.FaceView.{FaceView}
 use Rattle.cd_cell.specs.Levels.{mask_of_face, info_of_face}
 use Rattle.cd_cell.specs.CellFaults.{first_byte, face_fault}
 use Rattle.cd_cell.specs.StoredText.{stored_text}
 use Rattle.cd_cell.specs.Tree.{Tree, info_of, face_of, mask_of}
-use Rattle.cd_cell.specs.Unfolding.{unfold_from, unfolding_of, faces_from}
+use Rattle.cd_cell.specs.Unfolding.{unfolding_of, faces_from}
 use Rattle.cd_cell.specs.Bags.{no_face, face_at}
 use Rattle.cd_cell.specs.Clashes.{clash_of}
 use Rattle.cd_cell.proofs.Subtrees.{info_of-face_of}
 use Rattle.cd_cell.proofs.Unfoldings.{faces_from-is}
-use Rattle.cd_boc_write.specs.Frames.{Frame, frame_text}
+use Rattle.cd_boc_write.specs.Frames.{Frame}
 use Rattle.cd_boc_write.specs.CellTexts.{Text, entries_of_texts}
 use Rattle.cd_boc_read.specs.declared.bag_fault.BagFault.{BagFault}
 use Rattle.cd_boc_read.specs.declared.bag_fault.BagFault.TheVariants.{PrunedHashes, Cell, MaskDiffers, StoredHash, Clash}

@@ -1,7 +1,7 @@
 -- A fault of the texts of the cells is a row that holds of the bytes.
-use Rattle.std.proofs.Common.{◌≡◌, ◌≢◌, ℕ, zero, suc, ◌+◌, ◌-◌, ◌*◌, ◌/◌, ◌%◌, ◌<◌, ◌≤◌, ◌⊎◌, ◌&&◌, ◌||◌, not, Bool, true, false, cond, eqb, leb, ltb, List, [], ◌∷◌, length, get_or, subst, take, drop, Result, Ok, Err, refl, sym, ap, ap₂, ◌∙◌, inl, inr, arith}
+use Rattle.std.proofs.Common.{◌≡◌, ◌≢◌, ℕ, zero, suc, ◌+◌, ◌-◌, ◌*◌, ◌/◌, ◌%◌, ◌<◌, ◌≤◌, ◌⊎◌, ◌||◌, not, Bool, true, false, cond, eqb, leb, ltb, List, [], ◌∷◌, length, get_or, subst, take, drop, Ok, Err, refl, sym, ap, ap₂, ◌∙◌, inl, inr, arith}
 use Rattle.std.specs.List.{list_all}
-use Rattle.std.proofs.lemmas.Bool.{ltb-false, eqb-true, eqb-false, cases_lt, true≢false}
+use Rattle.std.proofs.lemmas.Bool.{ltb-false, eqb-false, cases_lt, true≢false}
 use Rattle.std.proofs.lemmas.Bool.Decides.{nat_tests}
 use Rattle.std.proofs.lemmas.List.{drop-drop, length-drop, length-take-le, get_or-drop, get_or-take}
 use Rattle.cd_base.specs.Numbers.{IsBytes, from_big}
@@ -12,8 +12,8 @@ use Rattle.cd_boc_read.specs.declared.bag_fault.BagFault.{BagFault}
 use Rattle.cd_boc_read.specs.declared.bag_fault.BagFault.TheVariants.{Descriptor, Length, Completion, Order, Index}
 use Rattle.cd_boc_read.specs.Grammar.{end_of_entry}
 use Rattle.cd_boc_read.specs.Reading.{numbers_at, stored_bytes, is_completed, is_later, text_of, parts_at, text_at, is_end, texts_at}
-use Rattle.cd_base.specs.Reading.{◌>>=◌, require, part_at}
-use Rattle.cd_boc_read.specs.Places.{number_in, stated_shape, stated_cells, stated_total, stated_data, text_len, text_start, stated_start, text_from, stated_first, stated_second, held_end, stated_last, stated_ref, stated_entry, index_start}
+use Rattle.cd_base.specs.Reading.{part_at}
+use Rattle.cd_boc_read.specs.Places.{number_in, stated_shape, stated_cells, stated_total, stated_data, text_len, text_start, stated_start, stated_first, stated_second, held_end, stated_last, stated_ref, stated_entry}
 use Rattle.cd_boc_read.specs.FaultRows.{Holds}
 use Rattle.cd_base.proofs.ReadingLaws.{ok_is, by_ok, by_test}
 use Rattle.cd_boc_read.proofs.PlaceLaws.{Stands, Stands-at, length-standing, part_found}
