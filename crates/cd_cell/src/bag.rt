@@ -1,9 +1,9 @@
 ghost use Rattle.std.specs.Prelude.{◌≡◌, ◌↔◌, ◌<◌, ◌≤◌, ℕ, [], length, map, take, slice_index_or, All, IsTrue};
 ghost use Rattle.cd_cell.specs.Infos.{info_hash, info_depth};
 ghost use Rattle.cd_cell.specs.GoodFace.{IsGoodFace};
-ghost use Rattle.cd_cell.specs.Tree.{children, info_of, face_of, rep_of, height_of, IsWellFormed};
+ghost use Rattle.cd_cell.specs.Tree.{children, info_of, face_of, rep_of};
 ghost use Rattle.cd_cell.specs.LevelRecursion.{tree_mask, tree_depth, tree_hash};
-ghost use Rattle.cd_cell.specs.Bags.{bag_tree, face_at, refs_at, IsBag};
+ghost use Rattle.cd_cell.specs.Bags.{bag_tree, face_at, refs_at, IsLower, IsBag};
 
 use crate::{ChildInfo, Face, Hash32, face_info};
 use std::marker::{Model, PhantomData};
@@ -92,7 +92,7 @@ impl<H: Hash32> Bag<H> {
         ensures numbers { result.now ≡ refs_at self.now number }
         ensures behind { All (λ r. (number < r) × (r < length self.now.cells)) result.now }
         ensures cells { children (bag_tree self.now number) ≡ map (bag_tree self.now) result.now }
-        ensures lower { All (λ r. height_of H.digest_of (bag_tree self.now r) < height_of H.digest_of (bag_tree self.now number)) result.now }
+        ensures lower { All (IsLower H.digest_of self.now number) result.now }
     {
         let count = self.face(number).refs() as usize;
         let refs = self.refs();
@@ -104,6 +104,7 @@ impl<H: Hash32> Bag<H> {
     pub fn info(&self, number: u32) -> ChildInfo
         requires { number < length self.now.cells }
         ensures info { result ≡ info_of H.digest_of (bag_tree self.now number) }
+        ensures kept { IsBag H.digest_of self.now.cells self.now.refs self.now.roots }
         // Over the whole tree: mask, depths and hashes are those of the recursion over levels and children.
         ensures mask { result.mask ≡ tree_mask (bag_tree self.now number) }
         ensures depths { (l : ℕ) → l ≤ 3 → info_depth result l ≡ tree_depth (bag_tree self.now number) l }
@@ -117,7 +118,8 @@ impl<H: Hash32> Bag<H> {
         requires a { a < length self.now.cells }
         requires b { b < length self.now.cells }
         ensures value { IsTrue result ↔ (bag_tree self.now a ≡ bag_tree self.now b) }
-        ensures reps { IsTrue result ↔ (rep_of H.digest_of (bag_tree self.now a) ≡ rep_of H.digest_of (bag_tree self.now b)) }
+        ensures reps { IsTrue result
+            ↔ (rep_of H.digest_of (bag_tree self.now a) ≡ rep_of H.digest_of (bag_tree self.now b)) }
     {
         *self.face(a) == *self.face(b)
     }
