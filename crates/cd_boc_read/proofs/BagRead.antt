@@ -11,7 +11,7 @@ use Rattle.cd_cell.specs.Levels.{rep_of_face}
 use Rattle.cd_cell.specs.Tree.{Tree, info_of, rep_of, IsWellFormed}
 use Rattle.cd_cell.specs.Unfolding.{Entry, no_tree, behind, unfold_from, unfolding_of, face_of_entry, infos_from, faces_from}
 use Rattle.cd_cell.specs.Export.{AreClashFree}
-use Rattle.cd_cell.specs.Bags.{face_at, entry_of, entries_of, bag_trees, IsBag}
+use Rattle.cd_cell.specs.Bags.{root_trees, face_at, entry_of, entries_of, IsBag}
 use Rattle.cd_cell.proofs.Subtrees.{subtree-itself, flat_map-listed, info_of-face_of}
 use Rattle.cd_cell.proofs.Unfoldings.{length-faces_from, length-unfold_from}
 use Rattle.cd_cell.proofs.BagLaws.{clash_free-bag, IsBag-filled, length-entries_of}
@@ -23,10 +23,11 @@ use Rattle.cd_boc_read.specs.declared.cell_text.CellText.{CellText}
 use Rattle.cd_boc_read.specs.Grammar.{IsBagOf, IsStated, Spells}
 use Rattle.cd_boc_read.specs.Views.{text_view, text_views}
 use Rattle.cd_boc_read.specs.Reading.{bag_at}
-use Rattle.cd_boc_read.specs.CellFaults.{cells_fault, clash_of, fault_of_texts}
+use Rattle.cd_boc_read.specs.CellFaults.{cells_fault, fault_of_texts}
+use Rattle.cd_cell.specs.Clashes.{clash_of}
 use Rattle.cd_boc_read.specs.BagFaults.{AreTexts, fault_in, bag_fault}
 use Rattle.cd_boc_read.proofs.CellLoop.{length-entries, length-text_views}
-use Rattle.cd_boc_read.proofs.ClashLaws.{clash_of-clear, clear-clash_of}
+use Rattle.cd_cell.proofs.ClashLaws.{clash_of-clear, clear-clash_of}
 use Rattle.cd_boc_read.proofs.StatedLaws.{option_or-none, none-option_or, option_map-none, later-texts, face-unfolded, sound-no_fault, good-sound, well_formed-sound, stated-sound, no_fault-stated}
 use Rattle.cd_boc_read.proofs.FrameLaws.{bag_at-found, bag_at-again}
 
@@ -108,13 +109,13 @@ module _ (H : List ℕ → Hash256) where
       clash_free-made : AreClashFree H (unfold_from 0 es)
       clash_free-made = subst (λ (x : List Entry). AreClashFree H (unfold_from 0 x)) named (clash_free-bag H faces refs roots bag_made (unfold_from 0 (entries_of faces refs)) unfolded-entry)
 
-      trees-made : bag_trees faces refs roots ≡ map (unfolding_of es) roots
+      trees-made : root_trees faces refs roots ≡ map (unfolding_of es) roots
       trees-made = ap (λ (x : List Entry). map (unfolding_of x) roots) named
 
   -- what was read of bytes spells the trees of the bag
   module _ (bytes : List ℕ) (f : Frame) (ts : List Text) (bag : IsBagOf f ts) (text : bytes ≡ frame_text f) (none : cells_fault H 0 ts (faces_from H 0 (entries_of_texts ts)) ≡ None) (clear : clash_of H (faces_from H 0 (entries_of_texts ts)) ≡ None)
       (refs : List (List ℕ)) (named : entries_of (faces_from H 0 (entries_of_texts ts)) refs ≡ entries_of_texts ts) (counted : length refs ≡ length (faces_from H 0 (entries_of_texts ts))) where
-    pub spelt_from : Spells H bytes (bag_trees (faces_from H 0 (entries_of_texts ts)) refs f.roots)
+    pub spelt_from : Spells H bytes (root_trees (faces_from H 0 (entries_of_texts ts)) refs f.roots)
     spelt_from =
         let sound = sound-no_fault H ts bag.texts none in
         record {
@@ -226,8 +227,8 @@ module _ (H : List ℕ → Hash256) where
         pub made : IsBag H cells refs f.roots
         made = subst (λ (fs : List FaceView). IsBag H fs refs f.roots) (sym filled) (bag_made read_texts are_texts none clear-read refs named-read counted-read f.roots found.0.rooted)
 
-        pub spelt : Spells H bytes (bag_trees cells refs f.roots)
-        spelt = subst (λ (fs : List FaceView). Spells H bytes (bag_trees fs refs f.roots)) (sym filled) (spelt_from bytes f read_texts found.0 found.1 none clear-read refs named-read counted-read)
+        pub spelt : Spells H bytes (root_trees cells refs f.roots)
+        spelt = subst (λ (fs : List FaceView). Spells H bytes (root_trees fs refs f.roots)) (sym filled) (spelt_from bytes f read_texts found.0 found.1 none clear-read refs named-read counted-read)
 
   -- bytes without a fault spell some trees
   spelt_by : (bytes : List ℕ) → IsBytes bytes → (r : Result (Frame × List Text) BagFault) → bag_at bytes ≡ r → fault_in H r ≡ None → (trees : List Tree) × Spells H bytes trees

@@ -2,9 +2,6 @@ pub mod NumberFields
 pub mod Loops
 pub mod StoredTexts
 pub mod CellLoop
-pub mod LeastHashes
-pub mod HashKeys
-pub mod ClashLaws
 pub mod StatedLaws
 pub mod FlagBits
 pub mod FieldLaws

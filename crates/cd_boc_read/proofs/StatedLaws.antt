@@ -12,7 +12,7 @@ use Rattle.cd_cell.specs.declared.kind.Kind.{Kind}
 use Rattle.cd_cell.specs.declared.kind.Kind.TheVariants.{Ordinary, Pruned, Library, Proof, Update}
 use Rattle.cd_cell.specs.FaceView.{FaceView}
 use Rattle.cd_cell.specs.Levels.{exotic_kind, kind_of_face, is_pruned, mask_of_face, info_of_face}
-use Rattle.cd_cell.specs.CellFaults.{first_byte, fault_of}
+use Rattle.cd_cell.specs.CellFaults.{first_byte, face_fault}
 use Rattle.cd_cell.specs.Fit.{IsFaceFit}
 use Rattle.cd_cell.specs.GoodFace.{IsGoodFace}
 use Rattle.cd_cell.specs.StoredText.{stored_text}
@@ -91,18 +91,18 @@ module _ (H : List ℕ → Hash256) where
   -- a cell without a fault
   pub record IsSound (t : Text) (f : FaceView) : Type 0 where
     pub pruned : stores_pruned t f ≡ false
-    pub fault : fault_of f ≡ None
+    pub fault : face_fault f ≡ None
     pub mask : t.mask ≡ mask_of_face f
     pub shown : is_shown t.stored (info_of_face H f) ≡ true
 
   pub IsSound-no_fault : (number : ℕ) (t : Text) (f : FaceView) → cell_fault H number t f ≡ None → IsSound t f
   IsSound-no_fault number t f none =
       let a = option_or-none (unless (not (stores_pruned t f)) (PrunedHashes number)) _ none in
-      let b = option_or-none (option_map (Cell number) (fault_of f)) _ a.1 in
+      let b = option_or-none (option_map (Cell number) (face_fault f)) _ a.1 in
       let c = option_or-none (unless (t.mask == mask_of_face f) (MaskDiffers number)) _ b.1 in
       record {
         pruned = not-not (stores_pruned t f) (unless-none (not (stores_pruned t f)) (PrunedHashes number) a.0);
-        fault = option_map-none (Cell number) (fault_of f) b.0;
+        fault = option_map-none (Cell number) (face_fault f) b.0;
         mask = eqb-true t.mask (mask_of_face f) (unless-none (t.mask == mask_of_face f) (MaskDiffers number) c.0);
         shown = unless-none (is_shown t.stored (info_of_face H f)) (StoredHash number) c.1;
       }

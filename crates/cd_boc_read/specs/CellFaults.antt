@@ -1,19 +1,16 @@
 -- What is wrong with the cells of a bag, once their texts are read: from the last cell downwards the first fault of
 -- each, and then the least hash that two different cells have.
-use Rattle.std.specs.Prelude.{ℕ, ◌+◌, Bool, true, not, ◌&&◌, ◌==◌, List, [], ◌∷◌, map, Option, Some, None, is_some, if◌then◌else◌}
+use Rattle.std.specs.Prelude.{ℕ, ◌+◌, Bool, true, not, ◌&&◌, ◌==◌, List, [], ◌∷◌, Option, Some, None, is_some, if◌then◌else◌}
 use Rattle.std.specs.Option.{option_or, option_map}
-use Rattle.std.specs.List.{filter, list_any}
-use Rattle.std.specs.Ordering.{match_ordering}
 use Rattle.std.specs.Str.{bytes_eq}
 use Rattle.cd_base.specs.declared.hash.Hash256.{Hash256}
 use Rattle.cd_cell.specs.declared.info.ChildInfo.{ChildInfo}
 use Rattle.cd_cell.specs.FaceView.{FaceView}
-use Rattle.cd_cell.specs.Levels.{mask_of_face, info_of_face, rep_of_face}
-use Rattle.cd_cell.specs.CellFaults.{first_byte, fault_of}
+use Rattle.cd_cell.specs.Levels.{mask_of_face, info_of_face}
+use Rattle.cd_cell.specs.CellFaults.{first_byte, face_fault}
 use Rattle.cd_cell.specs.StoredText.{stored_text}
 use Rattle.cd_cell.specs.Unfolding.{faces_from}
-use Rattle.cd_cell.specs.Equality.{same_hash, same_face}
-use Rattle.cd_cell.specs.Export.{hash_cmp}
+use Rattle.cd_cell.specs.Clashes.{clash_of}
 use Rattle.cd_boc_write.specs.CellTexts.{Text, entries_of_texts}
 use Rattle.cd_boc_read.specs.declared.bag_fault.BagFault.{BagFault}
 use Rattle.cd_boc_read.specs.declared.bag_fault.BagFault.TheVariants.{PrunedHashes, Cell, MaskDiffers, StoredHash, Clash}
@@ -31,33 +28,12 @@ abbrev pub is_shown : Option (List ℕ) → ChildInfo → Bool
 is_shown None info = true
 is_shown (Some bytes) info = bytes_eq bytes (stored_text info)
 
--- of some hashes the least
-abbrev pub lesser : Hash256 → Option Hash256 → Hash256
-lesser a None = a
-lesser a (Some b) = match_ordering (hash_cmp a b) a a b
-
-abbrev pub least_hash : List Hash256 → Option Hash256
-least_hash [] = None
-least_hash (hash ∷ hashes) = Some (lesser hash (least_hash hashes))
-
--- a face, behind the hash that is given for it
-abbrev pub HashedFace : Type 0
-HashedFace = Hash256 × FaceView
-
--- two different faces under one hash
-abbrev pub is_clash : HashedFace → HashedFace → Bool
-is_clash a b = same_hash a.0 b.0 && not (same_face a.1 b.1)
-
--- the least hash under which two different faces stand
-abbrev pub clash_among : List HashedFace → Option Hash256
-clash_among fs = least_hash (map (λ f. f.0) (filter (λ f. list_any (is_clash f) fs) fs))
-
 module _ (H : List ℕ → Hash256) where
   -- the first fault of the cell with this number, by its text and its face
   abbrev pub cell_fault : ℕ → Text → FaceView → Option BagFault
   cell_fault number t f =
       option_or (unless (not (stores_pruned t f)) (PrunedHashes number))
-      (option_or (option_map (Cell number) (fault_of f))
+      (option_or (option_map (Cell number) (face_fault f))
       (option_or (unless (t.mask == mask_of_face f) (MaskDiffers number))
       (unless (is_shown t.stored (info_of_face H f)) (StoredHash number))))
 
@@ -67,16 +43,8 @@ module _ (H : List ℕ → Hash256) where
   cells_fault number (t ∷ ts) [] = None
   cells_fault number (t ∷ ts) (f ∷ fs) = option_or (cells_fault (number + 1) ts fs) (cell_fault number t f)
 
-  -- a face behind its cell's representation hash
-  abbrev pub with_rep : FaceView → HashedFace
-  with_rep f = (rep_of_face H f, f)
-
-  -- the least representation hash that two different cells have
-  abbrev pub clash_of : List FaceView → Option Hash256
-  clash_of fs = clash_among (map with_rep fs)
-
   -- the first fault of all the cells
   abbrev pub fault_of_texts : List Text → Option BagFault
   fault_of_texts ts =
       let faces = faces_from H 0 (entries_of_texts ts) in
-      option_or (cells_fault 0 ts faces) (option_map Clash (clash_of faces))
+      option_or (cells_fault 0 ts faces) (option_map Clash (clash_of H faces))

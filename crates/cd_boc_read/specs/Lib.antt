@@ -3,4 +3,3 @@ pub mod Grammar
 pub mod CellFaults
 pub mod Reading
 pub mod BagFaults
-pub mod Clashes

@@ -5,7 +5,6 @@ mod bag_fault;
 mod bag_text;
 mod cell_text;
 mod cells;
-mod clashes;
 mod counts;
 mod fields;
 mod frame;
@@ -15,7 +14,6 @@ mod reading;
 mod texts;
 
 pub use bag_fault::BagFault;
-pub use clashes::least_clash;
 pub use laws::{a_bag_has_one_list_of_trees, an_export_is_a_bag_of_its_tree, bags_have_no_fault};
 pub use reading::read_bag;
 

@@ -7,14 +7,13 @@ use crate::BagFault;
 use crate::bag_text::bag_at;
 use crate::cell_text::CellText;
 use crate::cells::cells_of;
-use crate::clashes::least_clash;
-use cd_cell::{Bag, Hash32};
+use cd_cell::{Bag, Hash32, least_clash};
 use std::alloc::{AllocError, Global};
 
 /// The cells of a bag of cells, and its roots (TL-B, `serialized_boc`): at most 1,048,576 cells, and at least one
 /// root. Where the bytes are no bag, the first fault in the order of reading.
 pub fn read_bag<H: Hash32>(alloc: Global, bytes: &[u8]) -> Result<Bag<H>, BagFault>
-    ensures found { IfOk result (λ bag. Spells H.digest_of bytes.now (bag_trees bag.cells bag.refs bag.roots)) }
+    ensures found { IfOk result (λ bag. Spells H.digest_of bytes.now (bag_trees bag)) }
     ensures exact { Answers (bag_fault H.digest_of bytes.now) result }
     ensures few { IfOk result (λ bag. length bag.cells ≤ 1048576) }
     ensures rooted { IfOk result (λ bag. 1 ≤ length bag.roots) }

@@ -9,7 +9,7 @@ use std::test::Fail;
 // How many roots and cells a bag has.
 fn read<H: Hash32>(alloc: Global, bytes: &[u8]) -> Result<(usize, usize), BagFault> {
     match read_bag::<H>(alloc, bytes) {
-        Ok(bag) => Ok((bag.roots.as_slice().len(), bag.cells.as_slice().len())),
+        Ok(bag) => Ok((bag.roots().len(), bag.cells().len())),
         Err(fault) => Err(fault),
     }
 }

@@ -13,7 +13,7 @@ use Rattle.cd_cell.specs.Tree.{Tree, children, subtrees, info_of, face_of, rep_o
 use Rattle.cd_cell.specs.Unfolding.{Entry, no_tree, behind, tree_of_entry, unfold_from, unfolding_of, AreLater, face_of_entry, infos_from, faces_from}
 use Rattle.cd_cell.specs.Export.{AreClashFree}
 use Rattle.cd_cell.specs.GoodFace.{IsGoodFace}
-use Rattle.cd_cell.specs.Bags.{no_face, face_at, ref_at, entry_of, entries_of, bag_trees, IsBag}
+use Rattle.cd_cell.specs.Bags.{root_trees, no_face, face_at, ref_at, entry_of, entries_of, IsBag}
 use Rattle.cd_cell.proofs.Heights.{height_of-child}
 use Rattle.cd_cell.proofs.LevelRecursions.{at_levels}
 use Rattle.cd_cell.proofs.Subtrees.{Contains-first, Contains-later, Contains-cases, Contains-nil, Contains-mapped, subtree-itself, flat_map-listed, same_subtrees, info_of-face_of, list_of-trees_of, Contains-map, subtrees-cases, flat_map-cases, IsWellFormed-from}
@@ -238,6 +238,16 @@ module _ (H : List ℕ → Hash256) (cells : List FaceView) (refs : List (List �
       let true_at : x ≡ y → IsTrue told = λ same. test.1 (sym of-a ∙ ap (face_of H) same ∙ of-b) in
       ((λ h. same-bag a b in-a in-b (reps h), true_at), (reps, λ rep. true_at (same-bag a b in-a in-b rep)))
 
+  -- the numbers of an entry's children are those of entries behind it
+  pub behind-bag : (k : ℕ) → k < length cells → All (λ r. (k < r) × (r < length cells)) (take (length (face_at cells k).kids) (four k))
+  behind-bag k in' =
+      let face = face_at cells k in
+      let numbers = take (length face.kids) (four k) in
+      λ p d in-numbers.
+      let in-kids : p < length face.kids = omega (arith, in-numbers, length-take-le (length face.kids) (four k) (enough-bag k in')) in
+      let number : get_or numbers p d ≡ ref_at refs k p = get_or_default numbers p d 0 in-numbers ∙ get_or-take (length face.kids) (four k) p 0 in-kids in
+      (omega (arith, number, bag.later k p in' in-kids), omega (arith, number, bag.there k p in' in-kids))
+
   -- the cells of an entry's children are lower
   pub lower-bag : (k : ℕ) → k < length cells → All (λ r. height_of H (unfolding_of entries r) < height_of H (unfolding_of entries k)) (take (length (face_at cells k).kids) (four k))
   lower-bag k in' =
@@ -247,7 +257,7 @@ module _ (H : List ℕ → Hash256) (cells : List FaceView) (refs : List (List �
       let child = subst (λ cs. Contains cs (unfolding_of entries r)) (sym (children-bag k in')) (Contains-mapped (unfolding_of entries) numbers r (Contains-get_or numbers p d in-numbers)) in
       height_of-child H (unfolding_of entries k) (unfolding_of entries r) (well_formed-bag k in') child
 
-  root-entry : (t : Tree) → Contains (bag_trees cells refs roots) t → (k : ℕ) × (k < length cells) × (unfolding_of entries k ≡ t)
+  root-entry : (t : Tree) → Contains (root_trees cells refs roots) t → (k : ℕ) × (k < length cells) × (unfolding_of entries k ≡ t)
   root-entry t h =
       let named = Contains-map (unfolding_of entries) roots t h in
       let place = named.1 in
@@ -255,11 +265,11 @@ module _ (H : List ℕ → Hash256) (cells : List FaceView) (refs : List (List �
       (named.0, omega (arith, number, bag.rooted place.0 place.1), named.2)
 
   -- the trees of the roots are well-formed and free of clashes
-  pub well_formed-bag_trees : (t : Tree) → Contains (bag_trees cells refs roots) t → IsWellFormed H t
+  pub well_formed-bag_trees : (t : Tree) → Contains (root_trees cells refs roots) t → IsWellFormed H t
   well_formed-bag_trees t h = let entry = root-entry t h in subst (IsWellFormed H) entry.2 (well_formed-bag entry.0 entry.1)
 
-  pub clash_free-bag_trees : AreClashFree H (bag_trees cells refs roots)
-  clash_free-bag_trees = clash_free-bag (bag_trees cells refs roots) root-entry
+  pub clash_free-bag_trees : AreClashFree H (root_trees cells refs roots)
+  clash_free-bag_trees = clash_free-bag (root_trees cells refs roots) root-entry
 
 -- ---- from filled lists
 

@@ -12,7 +12,7 @@ use Rattle.cd_cell.specs.Infos.{info_hash, info_depth}
 use Rattle.cd_cell.specs.FaceView.{FaceView}
 use Rattle.cd_cell.specs.Levels.{exotic_kind, kind_of_face, mask_by_kind, mask_of_face, stated_hash, depth_of_face}
 use Rattle.cd_cell.specs.Equality.{same_hash-Decides}
-use Rattle.cd_cell.specs.CellFaults.{first_byte, second_byte, unless, kid_at, stated_depth_of_kid, states_hash, hash_fault, depth_fault, refs_fault, bits_fault, mask_fault, exotic_fault, fault_of_kind, form_fault, greatest_depth, fault_of}
+use Rattle.cd_cell.specs.CellFaults.{first_byte, second_byte, unless, kid_at, stated_depth_of_kid, states_hash, hash_fault, depth_fault, refs_fault, bits_fault, mask_fault, exotic_fault, fault_of_kind, form_fault, greatest_depth, face_fault}
 use Rattle.cd_cell.specs.Fit.{IsPrunedFace, IsLibraryFace, IsProofFace, IsUpdateFace, StatesKid, IsFaceFit}
 use Rattle.cd_cell.proofs.BitLemmas.{length-data_of}
 
@@ -204,8 +204,8 @@ form_none_by f true false (Some kind) other known fits = fits kind refl (λ e. o
 greatest-max : (a b c d m : ℕ) → a ≤ m → b ≤ m → c ≤ m → d ≤ m → max (max a b) (max c d) ≤ m
 greatest-max a b c d m ha hb hc hd = omega arith
 
-pub fault_of-fit : (f : FaceView) → IsFaceFit f → fault_of f ≡ None
-fault_of-fit f fit =
+pub face_fault-fit : (f : FaceView) → IsFaceFit f → face_fault f ≡ None
+face_fault-fit f fit =
     let form : form_fault f ≡ None =
     form_none_by f f.exotic (nat_lt (length f.bits) 8) (exotic_kind (first_byte f)) (exotic_kind-ordinary (first_byte f)) fit.known
     (λ kind is exotic. exotic_fault-fit f kind is exotic fit) in
@@ -213,7 +213,7 @@ fault_of-fit f fit =
     greatest-max (depth_of_face f 0) (depth_of_face f 1) (depth_of_face f 2) (depth_of_face f 3) 1024 (fit.depths 0 (omega arith)) (fit.depths 1 (omega arith)) (fit.depths 2 (omega arith)) (fit.depths 3 (omega arith)) in
     none_or (form_fault f) _ form (unless_holds (nat_le (greatest_depth f) 1024) (DepthBig (greatest_depth f)) (le-leb _ _ deep))
 
-pub fit_from_no_fault : (f : FaceView) → fault_of f ≡ None → IsFaceFit f
+pub fit_from_no_fault : (f : FaceView) → face_fault f ≡ None → IsFaceFit f
 fit_from_no_fault f h =
     let both = or_none (form_fault f) (unless (nat_le (greatest_depth f) 1024) (DepthBig (greatest_depth f))) h in
     IsFaceFit_from f both.0 (leb-true _ _ (holds_from_unless (nat_le (greatest_depth f) 1024) (DepthBig (greatest_depth f)) both.1))

@@ -18,14 +18,14 @@ use Rattle.cd_cell.specs.Masks.{lowest_bits, is_significant, level_of_mask}
 use Rattle.cd_cell.specs.BitText.{data_of}
 use Rattle.cd_cell.specs.Infos.{info_hash, info_depth, all_masks, depth_above}
 use Rattle.cd_cell.specs.FaceView.{FaceView}
-use Rattle.cd_cell.specs.Levels.{kind_of_face, mask_by_kind, mask_of_face, kid_level, stated_depth, representation, is_pruned, is_merkle, below_merkle, plain_depth, depth_of_face, plain_hash, hash_of_face, info_of_face}
+use Rattle.cd_cell.specs.Levels.{kind_of_face, mask_by_kind, mask_of_face, kid_level, stated_depth, representation, is_pruned, is_merkle, level_below, plain_depth, depth_of_face, plain_hash, hash_of_face, info_of_face}
 use Rattle.cd_cell.specs.CellFaults.{no_info, second_byte}
 use Rattle.cd_cell.specs.Fit.{IsFaceFit, IsPrunedFace, StatesKid}
 use Rattle.cd_cell.specs.Tree.{Tree, cell, Trees, no_trees, tree_and, list_of, info_of, infos_of, face_of, mask_of, hash_at, IsWellFormed, AreWellFormed}
 use Rattle.cd_cell.specs.Updates.{is_hidden, Matches, missing, first_foreign, foreign_of_all, grafted, grafted_all}
 use Rattle.cd_cell.specs.Unfolding.{no_tree}
 use Rattle.cd_cell.proofs.Heights.{pruned-cases, clear-bit, joined-small, IsSteady-infos_of, depth_of_face-same, if_pruned-no, no_kids-pruned}
-use Rattle.cd_cell.proofs.LevelRecursions.{hash_of_info, depth_of_info, below_merkle-low}
+use Rattle.cd_cell.proofs.LevelRecursions.{hash_of_info, depth_of_info, level_below-low}
 use Rattle.cd_cell.proofs.Showing.{no_option}
 
 -- what a grafted cell shows, beside what the cell of the new half shows: the mask up to level d, and hashes and depths there
@@ -125,7 +125,7 @@ module _ (H : List ℕ → Hash256) (exotic : Bool) (bits : List Bool) (ks gs : 
   kid_level-low : (l : ℕ) → l ≤ d → kid_level before l ≤ kid_level before d
   kid_level-low l low = go (is_merkle (kind_of_face before))
     where
-      go : (merkle : Bool) → below_merkle merkle l ≤ below_merkle merkle d
+      go : (merkle : Bool) → level_below merkle l ≤ level_below merkle d
       go true = omega arith
       go false = low
 
@@ -274,14 +274,14 @@ level-below m (suc (suc (suc zero))) small top low other = omega arith
 level-below m (suc (suc (suc (suc d)))) small top low other = absurd (omega arith)
 
 -- the masks of children up to the level at which they are taken
-merkle_mask : (m d : ℕ) → m ≤ 7 → d ≤ 3 → lowest_bits m (below_merkle true d) / 2 ≡ lowest_bits (m / 2) d
+merkle_mask : (m d : ℕ) → m ≤ 7 → d ≤ 3 → lowest_bits m (level_below true d) / 2 ≡ lowest_bits (m / 2) d
 merkle_mask m zero small top = omega arith
 merkle_mask m (suc zero) small top = omega arith
 merkle_mask m (suc (suc zero)) small top = omega arith
 merkle_mask m (suc (suc (suc zero))) small top = omega arith
 merkle_mask m (suc (suc (suc (suc d)))) small top = absurd (omega arith)
 
-merkle_low : (m d : ℕ) → m ≤ 7 → d ≤ 3 → m / 2 < 2 ^ (d + 1) → m < 2 ^ (below_merkle true d + 1)
+merkle_low : (m d : ℕ) → m ≤ 7 → d ≤ 3 → m / 2 < 2 ^ (d + 1) → m < 2 ^ (level_below true d + 1)
 merkle_low m zero small top low = omega arith
 merkle_low m (suc zero) small top low = omega arith
 merkle_low m (suc (suc zero)) small top low = omega arith
@@ -314,19 +314,19 @@ module _ (exotic : Bool) (bits : List Bool) (ks gs : List ChildInfo) (d : ℕ) (
   pub mask_of_face-kept : is_hidden d face ≡ false → AreKept (kid_level face d) ks gs → mask_of_face (record { exotic = exotic; bits = bits; kids = gs }) ≡ lowest_bits (mask_of_face face) d
   mask_of_face-kept shown kept = go (kind_of_face face) refl shown low kept
     where
-      go : (kind : Option Kind) → kind_of_face face ≡ kind → (is_pruned kind && (level_of_mask (mask_by_kind kind (data_of bits) ks) == d + 1)) ≡ false → mask_by_kind kind (data_of bits) ks < 2 ^ (d + 1) → AreKept (below_merkle (is_merkle kind) d) ks gs → mask_by_kind kind (data_of bits) gs ≡ lowest_bits (mask_by_kind kind (data_of bits) ks) d
+      go : (kind : Option Kind) → kind_of_face face ≡ kind → (is_pruned kind && (level_of_mask (mask_by_kind kind (data_of bits) ks) == d + 1)) ≡ false → mask_by_kind kind (data_of bits) ks < 2 ^ (d + 1) → AreKept (level_below (is_merkle kind) d) ks gs → mask_by_kind kind (data_of bits) gs ≡ lowest_bits (mask_by_kind kind (data_of bits) ks) d
       go None e shown low kept = absurd (fit.known e)
       go (Some Ordinary) e shown low kept = ap (λ m. fold (λ m k. bit_or m k.mask) m gs) (none_lowest d) ∙ joined-kept d 0 ks gs kept
       go (Some Pruned) e shown low kept =
           sym (mod-eq_of_lt (level-below (second_byte face) d (fit.pruned e).three_levels top low shown))
       go (Some Library) e shown low kept = none_lowest d
-      go (Some Proof) e shown low kept = merkle_kept (below_merkle true d) kept (merkle_mask (all_masks ks) d all_small top)
-      go (Some Update) e shown low kept = merkle_kept (below_merkle true d) kept (merkle_mask (all_masks ks) d all_small top)
+      go (Some Proof) e shown low kept = merkle_kept (level_below true d) kept (merkle_mask (all_masks ks) d all_small top)
+      go (Some Update) e shown low kept = merkle_kept (level_below true d) kept (merkle_mask (all_masks ks) d all_small top)
 
   pub kids-low : All (λ k. k.mask < 2 ^ (kid_level face d + 1)) ks
   kids-low = go (kind_of_face face) refl low
     where
-      go : (kind : Option Kind) → kind_of_face face ≡ kind → mask_by_kind kind (data_of bits) ks < 2 ^ (d + 1) → All (λ k. k.mask < 2 ^ (below_merkle (is_merkle kind) d + 1)) ks
+      go : (kind : Option Kind) → kind_of_face face ≡ kind → mask_by_kind kind (data_of bits) ks < 2 ^ (d + 1) → All (λ k. k.mask < 2 ^ (level_below (is_merkle kind) d + 1)) ks
       go None e low = absurd (fit.known e)
       go (Some Ordinary) e low = λ k x in'. lt_of_le_of_lt (joined-bound 0 ks k x in') low
       go (Some Pruned) e low = λ k x in'. omega (arith, (fit.pruned e).refs, in')
@@ -395,7 +395,7 @@ module _ (H : List ℕ → Hash256) (search : Tree → ℕ → Option Tree) (fin
         (λ e h. found-step n d (search n d) (finds n d) e)
         (λ e h.
         cell-step exotic bits ns (grafted_all H search ns kd) d top good low h
-        (grafts-are ns kd (below_merkle-low (is_merkle (kind_of_face shown)) d top) good.3 (kids-low exotic bits (infos_of H ns) (infos_of H ns) d top small good.2 low) e))
+        (grafts-are ns kd (level_below-low (is_merkle (kind_of_face shown)) d top) good.3 (kids-low exotic bits (infos_of H ns) (infos_of H ns) d top small good.2 low) e))
         none
 
     grafts-are : (ns : Trees) (d : ℕ) → d ≤ 3 → AreWellFormed H ns → All (λ k. k.mask < 2 ^ (d + 1)) (infos_of H ns) → foreign_of_all H search ns d ≡ None → AreGrafts d ns (grafted_all H search ns d)

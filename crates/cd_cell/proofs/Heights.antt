@@ -15,7 +15,7 @@ use Rattle.cd_cell.specs.Masks.{lowest_bits, is_significant, bit_count}
 use Rattle.cd_cell.specs.Infos.{info_hash, info_depth, height_of_info, all_masks, depth_above}
 use Rattle.cd_cell.specs.BitText.{data_of}
 use Rattle.cd_cell.specs.FaceView.{FaceView}
-use Rattle.cd_cell.specs.Levels.{kind_of_face, mask_by_kind, mask_of_face, kid_level, stated_depth, stated_hash, descriptor1, descriptor2, representation, is_pruned, is_merkle, below_merkle, height_of_face, pruned_depth, plain_depth, depth_of_face, pruned_hash, plain_hash, hash_of_face, info_of_face}
+use Rattle.cd_cell.specs.Levels.{kind_of_face, mask_by_kind, mask_of_face, kid_level, stated_depth, stated_hash, descriptor1, descriptor2, representation, is_pruned, is_merkle, level_below, height_of_face, pruned_depth, plain_depth, depth_of_face, pruned_hash, plain_hash, hash_of_face, info_of_face}
 use Rattle.cd_cell.specs.Fit.{IsFaceFit}
 use Rattle.cd_cell.specs.Tree.{Tree, cell, Trees, no_trees, tree_and, list_of, children, subtrees, subtrees_of_all, info_of, infos_of, height_of, IsWellFormed, AreWellFormed}
 use Rattle.cd_cell.specs.Steady.{IsSteady}
@@ -184,7 +184,7 @@ module _ (ks : List ChildInfo) (steady : All IsSteady ks) where
       depth_above-from (l + 1) l 0 ks (λ k d in'. (steady k d in').depths l below (clear-bit _ l below (all k d in')))
 
   -- the same one level up, as a Merkle cell takes them
-  merkle_depths-same : (l : ℕ) → l < 3 → bit_at (all_masks ks / 2) l ≡ 0 → depth_above (below_merkle true (l + 1)) ks ≡ depth_above (below_merkle true l) ks
+  merkle_depths-same : (l : ℕ) → l < 3 → bit_at (all_masks ks / 2) l ≡ 0 → depth_above (level_below true (l + 1)) ks ≡ depth_above (level_below true l) ks
   merkle_depths-same zero below clear = kid_depths-same 1 (omega arith) (bit_at-suc (all_masks ks) 0 ∙ clear)
   merkle_depths-same (suc zero) below clear = kid_depths-same 2 (omega arith) (bit_at-suc (all_masks ks) 1 ∙ clear)
   merkle_depths-same (suc (suc zero)) below clear = refl
@@ -193,7 +193,7 @@ module _ (ks : List ChildInfo) (steady : All IsSteady ks) where
 no_kids-same : (ks : List ChildInfo) → ks ≡ [] → (l m : ℕ) → depth_above l ks ≡ depth_above m ks
 no_kids-same ks none l m = ap (depth_above l) none ∙ sym (ap (depth_above m) none)
 
-whole_level : (merkle : Bool) → below_merkle merkle 3 ≡ 3
+whole_level : (merkle : Bool) → level_below merkle 3 ≡ 3
 whole_level true = refl
 whole_level false = refl
 
@@ -202,7 +202,7 @@ module _ (f : FaceView) (fit : IsFaceFit f) (steady : All IsSteady f.kids) where
   depth_above-same : (l : ℕ) → l < 3 → is_significant (mask_of_face f) (l + 1) ≡ false → depth_above (kid_level f (l + 1)) f.kids ≡ depth_above (kid_level f l) f.kids
   depth_above-same l below off = go (kind_of_face f) refl (bit-clear (mask_of_face f) l below off)
     where
-      go : (kind : Option Kind) → kind_of_face f ≡ kind → bit_at (mask_by_kind kind (data_of f.bits) f.kids) l ≡ 0 → depth_above (below_merkle (is_merkle kind) (l + 1)) f.kids ≡ depth_above (below_merkle (is_merkle kind) l) f.kids
+      go : (kind : Option Kind) → kind_of_face f ≡ kind → bit_at (mask_by_kind kind (data_of f.bits) f.kids) l ≡ 0 → depth_above (level_below (is_merkle kind) (l + 1)) f.kids ≡ depth_above (level_below (is_merkle kind) l) f.kids
       go None e clear = absurd (fit.known e)
       go (Some Ordinary) e clear = kid_depths-same f.kids steady l below clear
       go (Some Pruned) e clear = no_kids-same f.kids (nil_from_length f.kids (fit.pruned e).refs) (l + 1) l
@@ -257,7 +257,7 @@ module _ (f : FaceView) (fit : IsFaceFit f) (k : ChildInfo) (in' : Contains f.ki
   one_kid l below clear =
       steady.depths l below (clear-bit k.mask l below (All-contains (λ k. bit_at k.mask l ≡ 0) f.kids k (joined-clear 0 l f.kids clear).1 in'))
 
-  one_merkle_kid : (l : ℕ) → l < 3 → bit_at (all_masks f.kids / 2) l ≡ 0 → info_depth k (below_merkle true (l + 1)) ≡ info_depth k (below_merkle true l)
+  one_merkle_kid : (l : ℕ) → l < 3 → bit_at (all_masks f.kids / 2) l ≡ 0 → info_depth k (level_below true (l + 1)) ≡ info_depth k (level_below true l)
   one_merkle_kid zero below clear = one_kid 1 (omega arith) (bit_at-suc (all_masks f.kids) 0 ∙ clear)
   one_merkle_kid (suc zero) below clear = one_kid 2 (omega arith) (bit_at-suc (all_masks f.kids) 1 ∙ clear)
   one_merkle_kid (suc (suc zero)) below clear = refl
@@ -269,7 +269,7 @@ module _ (f : FaceView) (fit : IsFaceFit f) (k : ChildInfo) (in' : Contains f.ki
   kid_depth-same : (l : ℕ) → l < 3 → is_significant (mask_of_face f) (l + 1) ≡ false → info_depth k (kid_level f (l + 1)) ≡ info_depth k (kid_level f l)
   kid_depth-same l below off = go (kind_of_face f) refl (bit-clear (mask_of_face f) l below off)
     where
-      go : (kind : Option Kind) → kind_of_face f ≡ kind → bit_at (mask_by_kind kind (data_of f.bits) f.kids) l ≡ 0 → info_depth k (below_merkle (is_merkle kind) (l + 1)) ≡ info_depth k (below_merkle (is_merkle kind) l)
+      go : (kind : Option Kind) → kind_of_face f ≡ kind → bit_at (mask_by_kind kind (data_of f.bits) f.kids) l ≡ 0 → info_depth k (level_below (is_merkle kind) (l + 1)) ≡ info_depth k (level_below (is_merkle kind) l)
       go None e clear = absurd (fit.known e)
       go (Some Ordinary) e clear = one_kid l below clear
       go (Some Pruned) e clear = absurd (some_kid (fit.pruned e).refs)

@@ -11,7 +11,7 @@ use Rattle.cd_cell.specs.Masks.{lowest_bits, is_significant}
 use Rattle.cd_cell.specs.BitText.{data_of}
 use Rattle.cd_cell.specs.Infos.{info_hash, info_depth, depth_above}
 use Rattle.cd_cell.specs.FaceView.{FaceView}
-use Rattle.cd_cell.specs.Levels.{kind_of_face, mask_by_kind, mask_of_face, is_pruned, is_merkle, below_merkle, kid_level, representation, plain_depth, plain_hash, pruned_hash, depth_of_face, hash_of_face, info_of_face}
+use Rattle.cd_cell.specs.Levels.{kind_of_face, mask_by_kind, mask_of_face, is_pruned, is_merkle, level_below, kid_level, representation, plain_depth, plain_hash, pruned_hash, depth_of_face, hash_of_face, info_of_face}
 use Rattle.cd_cell.specs.Tree.{Tree, cell, Trees, no_trees, tree_and, infos_of, mask_of, hash_at, depth_at}
 use Rattle.cd_cell.specs.LevelRecursion.{kind_by, mask_over, tree_mask, tree_masks, one_above, depth_over, depth_stated, cell_depth, tree_depth, tree_depths, representation_over, hash_over, hash_stated, cell_hash, tree_hash, tree_hashes}
 
@@ -28,16 +28,16 @@ mask_over-is (Some Update) bytes ks = ap (λ m. m / 2) (sym (fold-map bit_or (λ
 one_above-is : (l : ℕ) (ks : List ChildInfo) → depth_above l ks ≡ one_above (map (λ k. info_depth k l) ks)
 one_above-is l ks = sym (fold-map (λ d k. max d (k + 1)) (λ k. info_depth k l) 0 ks)
 
-pub below_merkle-low : (merkle : Bool) (l : ℕ) → l ≤ 3 → below_merkle merkle l ≤ 3
-below_merkle-low true l low = omega arith
-below_merkle-low false l low = low
+pub level_below-low : (merkle : Bool) (l : ℕ) → l ≤ 3 → level_below merkle l ≤ 3
+level_below-low true l low = omega arith
+level_below-low false l low = low
 
 module _ (f : FaceView) (mask : ℕ) (same_mask : mask_of_face f ≡ mask) (depths : ℕ → List ℕ) (same_depths : (l : ℕ) → l ≤ 3 → map (λ k. info_depth k l) f.kids ≡ depths l) where
   abbrev level : ℕ → ℕ
-  level l = below_merkle (is_merkle (kind_of_face f)) l
+  level l = level_below (is_merkle (kind_of_face f)) l
 
   kid_depths : (l : ℕ) → l ≤ 3 → depth_above (kid_level f l) f.kids ≡ one_above (depths (level l))
-  kid_depths l low = one_above-is (level l) f.kids ∙ ap one_above (same_depths (level l) (below_merkle-low (is_merkle (kind_of_face f)) l low))
+  kid_depths l low = one_above-is (level l) f.kids ∙ ap one_above (same_depths (level l) (level_below-low (is_merkle (kind_of_face f)) l low))
 
   plain_depth-over : (l : ℕ) → l ≤ 3 → plain_depth f l ≡ depth_over mask (λ m. depths (level m)) l
   unfolding plain_depth depth_over
@@ -64,7 +64,7 @@ module _ (f : FaceView) (mask : ℕ) (same_mask : mask_of_face f ≡ mask) (dept
     text-is : (l : ℕ) (contents : List ℕ) → l ≤ 3 → representation f (lowest_bits (mask_of_face f) l) contents (level l) ≡ text l contents
     text-is l contents low =
         ap (λ m. representation f (lowest_bits m l) contents (level l)) same_mask
-        ∙ representation-over (lowest_bits mask l) contents (level l) (below_merkle-low (is_merkle (kind_of_face f)) l low)
+        ∙ representation-over (lowest_bits mask l) contents (level l) (level_below-low (is_merkle (kind_of_face f)) l low)
 
     plain_hash-over : (l : ℕ) → l ≤ 3 → plain_hash H f l ≡ hash_over H mask (data_of f.bits) text l
     unfolding plain_hash hash_over

@@ -18,3 +18,8 @@ pub mod AppliedUpdates
 pub mod NewCells
 pub mod Wanted
 pub mod DataBits
+pub mod ListTests
+pub mod IndexLaws
+pub mod LeastHashes
+pub mod NumberedHashes
+pub mod ClashLaws

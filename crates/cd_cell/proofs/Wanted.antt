@@ -13,7 +13,7 @@ use Rattle.cd_cell.specs.declared.kind.Kind.TheVariants.{Ordinary, Pruned, Libra
 use Rattle.cd_cell.specs.BitText.{data_of}
 use Rattle.cd_cell.specs.Infos.{info_hash, all_masks}
 use Rattle.cd_cell.specs.FaceView.{FaceView}
-use Rattle.cd_cell.specs.Levels.{kind_of_face, mask_by_kind, mask_of_face, is_merkle, below_merkle, kid_level}
+use Rattle.cd_cell.specs.Levels.{kind_of_face, mask_by_kind, mask_of_face, is_merkle, level_below, kid_level}
 use Rattle.cd_cell.specs.Fit.{IsFaceFit}
 use Rattle.cd_cell.specs.Steady.{IsSteady}
 use Rattle.cd_cell.specs.Tree.{Tree, cell, Trees, no_trees, tree_and, children, info_of, infos_of, face_of, mask_of, rep_of, hash_at, IsWellFormed}
@@ -21,7 +21,7 @@ use Rattle.cd_cell.specs.Equality.{same_bits-Decides}
 use Rattle.cd_cell.specs.Updates.{matches, Matches, agrees, is_hidden, Unless, Shows, ShowAll, wanted, wanted_of_all, shown_cells, shown_of_all}
 use Rattle.cd_cell.proofs.Subtrees.{Contains-mapped, Contains-first, Contains-later, kids-face_of, info_of-face_of, IsGoodFace-face_of, well_formed-child}
 use Rattle.cd_cell.proofs.Heights.{clear-bit, joined-small, IsSteady-info_of}
-use Rattle.cd_cell.proofs.LevelRecursions.{below_merkle-low}
+use Rattle.cd_cell.proofs.LevelRecursions.{level_below-low}
 use Rattle.cd_cell.proofs.Grafting.{joined-bound}
 use Rattle.cd_cell.proofs.Showing.{matches-Decides}
 
@@ -38,7 +38,7 @@ hash-flat k d (suc l) steady small from low =
     (eq-or-lt_of_le from)
 
 -- the levels of children, by that of their cell
-merkle_small : (m d : ℕ) → m ≤ 7 → d ≤ 3 → m / 2 < 2 ^ d → m < 2 ^ below_merkle true d
+merkle_small : (m d : ℕ) → m ≤ 7 → d ≤ 3 → m / 2 < 2 ^ d → m < 2 ^ level_below true d
 merkle_small m zero small top low = omega arith
 merkle_small m (suc zero) small top low = omega arith
 merkle_small m (suc (suc zero)) small top low = omega arith
@@ -48,7 +48,7 @@ merkle_small m (suc (suc (suc (suc d)))) small top low = absurd (omega arith)
 kids-small : (f : FaceView) (d : ℕ) → d ≤ 3 → IsFaceFit f → All (λ k. k.mask ≤ 7) f.kids → mask_of_face f < 2 ^ d → All (λ k. k.mask < 2 ^ kid_level f d) f.kids
 kids-small f d top fit small low = go (kind_of_face f) refl low
   where
-    go : (kind : Option Kind) → kind_of_face f ≡ kind → mask_by_kind kind (data_of f.bits) f.kids < 2 ^ d → All (λ k. k.mask < 2 ^ below_merkle (is_merkle kind) d) f.kids
+    go : (kind : Option Kind) → kind_of_face f ≡ kind → mask_by_kind kind (data_of f.bits) f.kids < 2 ^ d → All (λ k. k.mask < 2 ^ level_below (is_merkle kind) d) f.kids
     go None e low = absurd (fit.known e)
     go (Some Ordinary) e low = λ k x in'. lt_of_le_of_lt (joined-bound 0 f.kids k x in') low
     go (Some Pruned) e low = λ k x in'. omega (arith, (fit.pruned e).refs, in')
@@ -109,7 +109,7 @@ module _ (H : List ℕ → Hash256) where
         let parts = and_parts _ _ agree in
         let kind = same_kind d (face_of H t) shown agree in
         let pairs = subst (λ ks. pointwise (matches kd) ks shown.kids ≡ true) (kids-face_of H t) parts.1 in
-        wanted-of_all os (children t) kd (below_merkle-low (is_merkle (kind_of_face shown)) d top)
+        wanted-of_all os (children t) kd (level_below-low (is_merkle (kind_of_face shown)) d top)
         (λ c in'. subst (λ l. IsOld l c) kind (old-children t d top old c in'))
         pairs all)
 

@@ -7,10 +7,10 @@ use Rattle.cd_base.specs.declared.hash.Hash256.{Hash256}
 use Rattle.cd_cell.specs.declared.cell_fault.CellFault.{CellFault}
 use Rattle.cd_cell.specs.declared.kind.Kind.{Kind}
 use Rattle.cd_cell.specs.FaceView.{FaceView}
-use Rattle.cd_cell.specs.CellFaults.{fault_of}
+use Rattle.cd_cell.specs.CellFaults.{face_fault}
 use Rattle.cd_cell.specs.Fit.{IsFaceFit}
 use Rattle.cd_cell.specs.Tree.{Tree, cell, Trees, no_trees, tree_and, list_of, children, face_of, infos_of, IsWellFormed, AreWellFormed}
-use Rattle.cd_cell.proofs.FitLemmas.{fault_of-fit, fit_from_no_fault}
+use Rattle.cd_cell.proofs.FitLemmas.{face_fault-fit, fit_from_no_fault}
 
 module _ (H : List ℕ → Hash256) where
   AreWellFormed_from : (ts : Trees) → AllByRecursion (IsWellFormed H) (list_of ts) → AreWellFormed H ts
@@ -21,7 +21,7 @@ module _ (H : List ℕ → Hash256) where
   length-infos_of no_trees = refl
   length-infos_of (tree_and t ts) = ap suc (length-infos_of ts)
 
-  pub IsWellFormed_from_face : (f : FaceView) (t : Tree) → face_of H t ≡ f → length f.bits ≤ 1023 → length f.kids ≤ 4 → fault_of f ≡ None → All (IsWellFormed H) (children t) → IsWellFormed H t
+  pub IsWellFormed_from_face : (f : FaceView) (t : Tree) → face_of H t ≡ f → length f.bits ≤ 1023 → length f.kids ≤ 4 → face_fault f ≡ None → All (IsWellFormed H) (children t) → IsWellFormed H t
   IsWellFormed_from_face f (cell exotic bits ts) is long few none kids =
       let fit : IsFaceFit (face_of H (cell exotic bits ts)) = subst IsFaceFit (sym is) (fit_from_no_fault f none) in
       let own_bits : length bits ≤ 1023 = omega (arith, long, ap (λ (x : FaceView). length x.bits) is) in
@@ -31,13 +31,13 @@ module _ (H : List ℕ → Hash256) where
   fit_of_well_formed : (t : Tree) → IsWellFormed H t → IsFaceFit (face_of H t)
   fit_of_well_formed (cell exotic bits ts) good = good.2
 
-  pub no_fault_of_well_formed : (f : FaceView) (t : Tree) → face_of H t ≡ f → IsWellFormed H t → fault_of f ≡ None
-  no_fault_of_well_formed f t is good = ap fault_of (sym is) ∙ fault_of-fit (face_of H t) (fit_of_well_formed t good)
+  pub no_fault_of_well_formed : (f : FaceView) (t : Tree) → face_of H t ≡ f → IsWellFormed H t → face_fault f ≡ None
+  no_fault_of_well_formed f t is good = ap face_fault (sym is) ∙ face_fault-fit (face_of H t) (fit_of_well_formed t good)
 
-  pub passed : (f : FaceView) (t : Tree) → face_of H t ≡ f → length f.bits ≤ 1023 → length f.kids ≤ 4 → fault_of f ≡ None → All (IsWellFormed H) (children t) → (true ≡ true) ↔ IsWellFormed H t
+  pub passed : (f : FaceView) (t : Tree) → face_of H t ≡ f → length f.bits ≤ 1023 → length f.kids ≤ 4 → face_fault f ≡ None → All (IsWellFormed H) (children t) → (true ≡ true) ↔ IsWellFormed H t
   passed f t is long few none kids = (λ _. IsWellFormed_from_face f t is long few none kids, λ _. refl)
 
-  pub refused : (f : FaceView) (r : Result Kind CellFault) (fault : CellFault) (t : Tree) → IsErr r → fault_of f ≡ Some fault → face_of H t ≡ f → IsOk r ↔ IsWellFormed H t
+  pub refused : (f : FaceView) (r : Result Kind CellFault) (fault : CellFault) (t : Tree) → IsErr r → face_fault f ≡ Some fault → face_of H t ≡ f → IsOk r ↔ IsWellFormed H t
   refused f (Ok kind) fault t gone some is = absurd (true≢false (sym gone))
   refused f (Err e) fault t gone some is =
       (λ ok. absurd (true≢false (sym ok)), λ good. let none = no_fault_of_well_formed f t is good in absurd cc)

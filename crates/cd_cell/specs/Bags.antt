@@ -1,7 +1,8 @@
--- What a bag of cells keeps: entries whose children stand behind them, with their faces.
+-- Trusted: the trees of a bag of cells, and what a bag keeps: entries whose children stand behind them, with their faces.
 use Rattle.std.specs.Prelude.{◌≡◌, ℕ, ◌<◌, false, List, [], ◌∷◌, length, map, take, slice_index, slice_index_or}
 use Rattle.cd_base.specs.declared.hash.Hash256.{Hash256}
 use Rattle.cd_cell.specs.FaceView.{FaceView}
+use Rattle.cd_cell.specs.BagView.{BagView}
 use Rattle.cd_cell.specs.Levels.{info_of_face, rep_of_face}
 use Rattle.cd_cell.specs.CellFaults.{kid_at}
 use Rattle.cd_cell.specs.GoodFace.{IsGoodFace}
@@ -28,13 +29,23 @@ entries_of [] rs = []
 entries_of (f ∷ fs) [] = []
 entries_of (f ∷ fs) (r ∷ rs) = entry_of f r ∷ entries_of fs rs
 
+-- the numbers of the children of an entry
+abbrev pub refs_at : BagView → ℕ → List ℕ
+refs_at bag number = take (length (face_at bag.cells number).kids) (slice_index_or bag.refs number [])
+
 -- the cell of an entry, with the cells below it
 abbrev pub bag_cell : List FaceView → List (List ℕ) → ℕ → Tree
 bag_cell cells refs number = unfolding_of (entries_of cells refs) number
 
+abbrev pub bag_tree : BagView → ℕ → Tree
+bag_tree bag number = bag_cell bag.cells bag.refs number
+
 -- the trees of the roots
-abbrev pub bag_trees : List FaceView → List (List ℕ) → List ℕ → List Tree
-bag_trees cells refs roots = map (unfolding_of (entries_of cells refs)) roots
+abbrev pub root_trees : List FaceView → List (List ℕ) → List ℕ → List Tree
+root_trees cells refs roots = map (bag_cell cells refs) roots
+
+abbrev pub bag_trees : BagView → List Tree
+bag_trees bag = root_trees bag.cells bag.refs bag.roots
 
 -- entries with their faces, and the numbers of some as roots
 pub record IsBag (H : List ℕ → Hash256) (cells : List FaceView) (refs : List (List ℕ)) (roots : List ℕ) : Type 0 where

@@ -2,6 +2,7 @@
 use Rattle.std.specs.Prelude.{ℕ, zero, suc, ◌+◌, ◌-◌, ◌*◌, ◌/◌, ◌%◌, Bool, true, false, List, [], ◌∷◌, ◌++◌, length, take, drop, replicate, ◌==◌, ◌≡◌, ◌≢◌, ◌≤◌, ◌<◌, slice_index, if◌then◌else◌}
 use Rattle.std.specs.List.{flat_map}
 use Rattle.std.specs.Int.{w8, trailing_zeros}
+use Rattle.cd_cell.specs.declared.limits.TheConstants.{MOST_BITS}
 
 -- whether the lowest bit is set
 abbrev pub is_odd : ℕ → Bool
@@ -48,7 +49,7 @@ filled bytes = bytes ++ replicate (128 - length bytes) 0
 
 -- the first bits of the 128 bytes are a cell's data, and zeros stand behind them
 pub record IsBitText (bytes : List ℕ) (count : ℕ) : Type 0 where
-  pub few : count ≤ 1023
+  pub few : count ≤ MOST_BITS
   pub counted : length (first_bits count bytes) ≡ count
   pub text : bytes ≡ filled (data_of (first_bits count bytes))
 

@@ -1,6 +1,7 @@
 -- What is wrong with a face: the first fault, in the order of the table of faults.
 use Rattle.std.specs.Prelude.{ℕ, ◌+◌, ◌*◌, Bool, not, ◌&&◌, ◌||◌, [], length, slice_index, slice_index_or, ◌==◌, nat_lt, nat_le, max, if◌then◌else◌, Option, Some, None}
 use Rattle.std.specs.Option.{option_or}
+use Rattle.cd_cell.specs.declared.limits.TheConstants.{GREATEST_DEPTH}
 use Rattle.cd_cell.specs.declared.info.ChildInfo.{ChildInfo}
 use Rattle.cd_cell.specs.declared.kind.Kind.{Kind}
 use Rattle.cd_cell.specs.declared.kind.Kind.TheVariants.{Ordinary, Pruned, Library, Proof, Update}
@@ -99,5 +100,5 @@ abbrev pub greatest_depth : FaceView → ℕ
 greatest_depth f = max (max (depth_of_face f 0) (depth_of_face f 1)) (max (depth_of_face f 2) (depth_of_face f 3))
 
 -- the first fault of a face, if there is one
-abbrev pub fault_of : FaceView → Option CellFault
-fault_of f = option_or (form_fault f) (unless (nat_le (greatest_depth f) 1024) (DepthBig (greatest_depth f)))
+abbrev pub face_fault : FaceView → Option CellFault
+face_fault f = option_or (form_fault f) (unless (nat_le (greatest_depth f) GREATEST_DEPTH) (DepthBig (greatest_depth f)))

@@ -1,5 +1,6 @@
 -- The faces of well-formed cells, as a fact for each kind (TVM documentation, "Cells").
 use Rattle.std.specs.Prelude.{◌≡◌, ◌≢◌, ℕ, ◌+◌, ◌*◌, ◌≤◌, length, Some, None}
+use Rattle.cd_cell.specs.declared.limits.TheConstants.{GREATEST_DEPTH}
 use Rattle.cd_cell.specs.declared.kind.Kind.TheVariants.{Pruned, Library, Proof, Update}
 use Rattle.cd_cell.specs.Masks.{bit_count}
 use Rattle.cd_cell.specs.Infos.{info_hash, info_depth}
@@ -42,4 +43,4 @@ pub record IsFaceFit (f : FaceView) : Type 0 where
   pub library : kind_of_face f ≡ Some Library → IsLibraryFace f
   pub proof : kind_of_face f ≡ Some Proof → IsProofFace f
   pub update : kind_of_face f ≡ Some Update → IsUpdateFace f
-  pub depths : (l : ℕ) → l ≤ 3 → depth_of_face f l ≤ 1024
+  pub depths : (l : ℕ) → l ≤ 3 → depth_of_face f l ≤ GREATEST_DEPTH

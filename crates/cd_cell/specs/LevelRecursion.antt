@@ -9,7 +9,7 @@ use Rattle.cd_cell.specs.declared.kind.Kind.TheVariants.{Ordinary, Pruned, Libra
 use Rattle.cd_cell.specs.Masks.{lowest_bits, is_significant, bit_count}
 use Rattle.cd_cell.specs.BitText.{data_of}
 use Rattle.cd_cell.specs.FaceView.{FaceView}
-use Rattle.cd_cell.specs.Levels.{kind_of_face, is_pruned, is_merkle, below_merkle, stated_hash, stated_depth, descriptor2}
+use Rattle.cd_cell.specs.Levels.{kind_of_face, is_pruned, is_merkle, level_below, stated_hash, stated_depth, descriptor2}
 use Rattle.cd_cell.specs.Tree.{Tree, cell, Trees, no_trees, tree_and}
 
 -- flag and bits alone
@@ -59,7 +59,7 @@ depth_stated f mask l =
 abbrev pub cell_depth : Bool → List Bool → ℕ → (ℕ → List ℕ) → ℕ → ℕ
 cell_depth exotic bits mask depths l =
     let kind = kind_by exotic bits in
-    if is_pruned kind then depth_stated (bare exotic bits) mask l else depth_over mask (λ m. depths (below_merkle (is_merkle kind) m)) l
+    if is_pruned kind then depth_stated (bare exotic bits) mask l else depth_over mask (λ m. depths (level_below (is_merkle kind) m)) l
 
 abbrev mutual
   pub tree_depth : Tree → ℕ → ℕ
@@ -95,7 +95,7 @@ module _ (H : List ℕ → Hash256) where
   abbrev pub cell_hash : Bool → List Bool → ℕ → (ℕ → List ℕ) → (ℕ → List Hash256) → ℕ → Hash256
   cell_hash exotic bits mask depths hashes l =
       let kind = kind_by exotic bits in
-      let below : ℕ → ℕ = below_merkle (is_merkle kind) in
+      let below : ℕ → ℕ = level_below (is_merkle kind) in
       if is_pruned kind
       then hash_stated (bare exotic bits) mask (representation_over exotic bits mask (data_of bits) (depths l) (hashes l)) l
       else hash_over mask (data_of bits) (λ m contents. representation_over exotic bits (lowest_bits mask m) contents (depths (below m)) (hashes (below m))) l

@@ -44,12 +44,12 @@ abbrev pub mask_of_face : FaceView → ℕ
 mask_of_face f = mask_by_kind (kind_of_face f) (data_of f.bits) f.kids
 
 -- below a Merkle cell levels and Merkle depths are one more, and not over 3
-abbrev pub below_merkle : Bool → ℕ → ℕ
-below_merkle merkle l = if merkle then min (l + 1) 3 else l
+abbrev pub level_below : Bool → ℕ → ℕ
+level_below merkle l = if merkle then min (l + 1) 3 else l
 
 -- the level at which a cell takes its children for its own level l
 abbrev pub kid_level : FaceView → ℕ → ℕ
-kid_level f l = below_merkle (is_merkle (kind_of_face f)) l
+kid_level f l = level_below (is_merkle (kind_of_face f)) l
 
 -- a hash that stands in the data from a byte on
 abbrev pub stated_hash : FaceView → ℕ → Hash256

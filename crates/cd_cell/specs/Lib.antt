@@ -13,7 +13,12 @@ pub mod Equality
 pub mod Steady
 pub mod LevelRecursion
 pub mod GoodFace
+pub mod BagView
 pub mod Bags
+pub mod PreparedView
 pub mod Listings
 pub mod Updates
 pub mod StoredText
+pub mod Clashes
+pub mod ClashSearch
+pub mod Indexes

@@ -4,6 +4,7 @@ use Rattle.std.specs.List.{list_any}
 use Rattle.std.specs.Ordering.{nat_cmp, ordering_then}
 use Rattle.std.specs.declared.cmp.Ordering.{Ordering}
 use Rattle.std.specs.declared.cmp.Ordering.TheVariants.{Less}
+use Rattle.cd_cell.specs.declared.limits.TheConstants.{GREATEST_DEPTH}
 use Rattle.cd_base.specs.declared.hash.Hash256.{Hash256}
 use Rattle.cd_cell.specs.declared.info.ChildInfo.{ChildInfo}
 use Rattle.cd_cell.specs.declared.new_cell.NewCell.{NewCell}
@@ -53,7 +54,7 @@ module _ (H : List ℕ → Hash256) where
     pub distinct : (i j : ℕ) → i < length cells → j < length cells → (listed_at cells i).hash ≡ (listed_at cells j).hash → i ≡ j
     pub reached : (k : ℕ) → k < length cells → IsTrue (is_named root (take k cells) (info_of_new (listed_at cells k)))
     pub plain : root.mask ≡ 0
-    pub shallow : height_of_info root ≤ 1024
+    pub shallow : height_of_info root ≤ GREATEST_DEPTH
 
   -- ---- over an old tree
 

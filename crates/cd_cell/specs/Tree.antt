@@ -1,5 +1,6 @@
 -- Cells as trees, with their hashes and depths, over any function from bytes to hashes.
 use Rattle.std.specs.Prelude.{ℕ, ◌≤◌, Bool, List, [], ◌∷◌, ◌++◌, length, Option}
+use Rattle.cd_cell.specs.declared.limits.TheConstants.{MOST_BITS}
 use Rattle.cd_base.specs.declared.hash.Hash256.{Hash256}
 use Rattle.cd_cell.specs.declared.info.ChildInfo.{ChildInfo}
 use Rattle.cd_cell.specs.declared.kind.Kind.{Kind}
@@ -77,7 +78,7 @@ module _ (H : List ℕ → Hash256) where
   abbrev mutual
     pub IsWellFormed : Tree → Type 0
     IsWellFormed (cell exotic bits ts) =
-        (length bits ≤ 1023) × (length (list_of ts) ≤ 4) × IsFaceFit (record { exotic = exotic; bits = bits; kids = infos_of ts }) × AreWellFormed ts
+        (length bits ≤ MOST_BITS) × (length (list_of ts) ≤ 4) × IsFaceFit (record { exotic = exotic; bits = bits; kids = infos_of ts }) × AreWellFormed ts
 
     pub AreWellFormed : Trees → Type 0
     AreWellFormed no_trees = Unit {0}

@@ -1,6 +1,7 @@
 ghost use Rattle.std.specs.Prelude.{◌≡◌, ◌≢◌, ◌↔◌, ℕ, ◌+◌, ◌*◌, ◌%◌, ◌≤◌, ◌<◌, ◌==◌, Bool, List, Some, length, take, drop, slice_get, slice_index, IsSome, IfSome};
 ghost use Rattle.cd_cell.specs.BitText.{data_of, byte_count, first_bits, byte_of_bits, bits_of_byte, filled, data_bits, IsBitData};
 
+use crate::MOST_BITS;
 use crate::put::put;
 use std::fmt;
 use std::marker::Model;
@@ -31,10 +32,10 @@ impl Bits {
     /// The first `len` bits of the bytes, the highest bit of each byte first; `None` where the bytes have fewer, or
     /// `len` is over 1023.
     pub fn from_slice(bytes: &[u8], len: u16) -> Option<Bits>
-        ensures found { IsSome result ↔ ((len ≤ 1023) × (len ≤ 8 * length bytes.now)) }
+        ensures found { IsSome result ↔ ((len ≤ MOST_BITS) × (len ≤ 8 * length bytes.now)) }
         ensures value { IfSome result (λ bits. bits ≡ first_bits len bytes.now) }
     {
-        if len > 1023 {
+        if len > MOST_BITS {
             return None;
         }
         if bytes.len() < (len as usize).div_ceil(8) {
@@ -54,7 +55,7 @@ impl Bits {
         ensures value { IfSome result (λ bits. data_of bits ≡ bytes.now) }
         ensures read { IfSome result (λ bits. bits ≡ data_bits whole bytes.now) }
         ensures whole { IfSome result (λ bits. (length bits % 8 == 0) ≡ whole) }
-        ensures only { (bits : List Bool) → length bits ≤ 1023 → data_of bits ≡ bytes.now → (length bits % 8 == 0) ≡ whole → result ≡ Some bits }
+        ensures only { (bits : List Bool) → length bits ≤ MOST_BITS → data_of bits ≡ bytes.now → (length bits % 8 == 0) ≡ whole → result ≡ Some bits }
     {
         if whole {
             if bytes.len() > 127 {
@@ -78,7 +79,7 @@ impl Bits {
     /// The number of the bits, at most 1023.
     pub fn len(&self) -> u16
         ensures value { result ≡ length self.now }
-        ensures few { result ≤ 1023 }
+        ensures few { result ≤ MOST_BITS }
     {
         self.len
     }
@@ -152,7 +153,7 @@ impl fmt::Debug for Bits {
 
 // The data of the first bits of some bytes, with zeros behind them.
 fn text_of(bytes: &[u8], len: u16) -> [u8; 128]
-    requires few { len ≤ 1023 }
+    requires few { len ≤ MOST_BITS }
     requires enough { len ≤ 8 * length bytes.now }
     ensures { result ≡ filled (data_of (first_bits len bytes.now)) }
 {

@@ -4,7 +4,7 @@ ghost use Rattle.cd_cell.specs.declared.kind.Kind.TheVariants.{Pruned, Library, 
 ghost use Rattle.cd_cell.specs.FaceView.{FaceView};
 ghost use Rattle.cd_cell.specs.BitText.{data_of};
 ghost use Rattle.cd_cell.specs.Levels.{kind_of_face};
-ghost use Rattle.cd_cell.specs.CellFaults.{refs_fault, bits_fault, states_hash, hash_fault, depth_fault, exotic_fault, form_fault, greatest_depth, fault_of};
+ghost use Rattle.cd_cell.specs.CellFaults.{refs_fault, bits_fault, states_hash, hash_fault, depth_fault, exotic_fault, form_fault, greatest_depth, face_fault};
 ghost use Rattle.cd_cell.specs.Fit.{IsPrunedFace, IsFaceFit};
 ghost use Rattle.cd_cell.specs.GoodFace.{IsGoodFace};
 ghost use Rattle.std.specs.List.{All};
@@ -14,14 +14,14 @@ ghost use Rattle.cd_cell.specs.Tree.{Tree, children, face_of, IsWellFormed};
 use crate::levels::{plain_depths, plain_mask};
 use crate::pruned::pruned_depths;
 use crate::stated::{depth_in, hash_in};
-use crate::{CellFault, Face, Kind, Mask};
+use crate::{CellFault, Face, GREATEST_DEPTH, Kind, Mask};
 
 impl Face {
     /// The kind of the cell, or the first fault that keeps it from being well-formed where its children are
     /// (TVM documentation, "Cells").
     pub fn check(&self) -> Result<Kind, CellFault>
-        ensures exact { MatchResult result (λ kind. (fault_of self.now ≡ None) × (kind_of_face self.now ≡ Some kind))
-            (λ fault. fault_of self.now ≡ Some fault) }
+        ensures exact { MatchResult result (λ kind. (face_fault self.now ≡ None) × (kind_of_face self.now ≡ Some kind))
+            (λ fault. face_fault self.now ≡ Some fault) }
         ensures fit { IfOk result (λ _. IsFaceFit self.now) }
         ensures good { IfOk result (λ _. IsGoodFace self.now) }
         ensures tree { (H : List ℕ → Hash256) (t : Tree) → face_of H t ≡ self.now → All (IsWellFormed H) (children t) →
@@ -29,7 +29,7 @@ impl Face {
     {
         let kind = form(self)?;
         let depth = greatest(self, kind);
-        if depth > 1024 {
+        if depth > GREATEST_DEPTH {
             return Err(CellFault::DepthBig { depth });
         }
         // Every face keeps that its bits and children are few, which is a part of being well-formed.

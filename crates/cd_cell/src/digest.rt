@@ -7,7 +7,7 @@ use cd_base::Hash256;
 use sha2::{Digest, Sha256};
 
 /// A function from bytes to hashes. Nothing is promised of collisions.
-pub trait Hash32: Send + Sync {
+pub trait Hash32 {
     /// The function.
     ghost digest_of: { List ℕ → Hash256 };
 

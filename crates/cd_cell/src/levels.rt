@@ -1,9 +1,9 @@
 ghost use Rattle.std.specs.Prelude.{◌≡◌, ◌≢◌, ℕ, ◌+◌, ◌*◌, ◌≤◌, ◌<◌, [], ◌∷◌, ◌++◌, length, Some, None, take, drop, slice_index};
 ghost use Rattle.cd_base.specs.declared.hash.Hash256.{Hash256};
 ghost use Rattle.cd_cell.specs.Infos.{all_masks, depth_above};
-ghost use Rattle.cd_cell.specs.Levels.{kind_of_face, is_merkle, mask_of_face, below_merkle, descriptor1, descriptor2, depths_text, hashes_text, representation, next_depth, plain_depth, next_hash, plain_hash};
+ghost use Rattle.cd_cell.specs.Levels.{kind_of_face, is_merkle, mask_of_face, level_below, descriptor1, descriptor2, depths_text, hashes_text, representation, next_depth, plain_depth, next_hash, plain_hash};
 
-use crate::text::Text;
+use crate::digest_text::DigestText;
 use crate::{Bits, ChildInfo, Face, Hash32, Kind, Mask};
 use cd_base::Hash256;
 
@@ -24,7 +24,7 @@ pub fn kind_of(face: &Face) -> Option<Kind>
 }
 
 /// The masks of the children, joined.
-pub fn joined(kids: &[ChildInfo]) -> Mask
+pub fn all_masks(kids: &[ChildInfo]) -> Mask
     ensures { result ≡ all_masks kids.now }
 {
     let mut mask = Mask::NONE;
@@ -35,16 +35,16 @@ pub fn joined(kids: &[ChildInfo]) -> Mask
 }
 
 /// The level at which a cell takes its children for its own level `l`.
-pub fn kid_level(merkle: bool, l: u8) -> u8
+pub fn level_below(merkle: bool, l: u8) -> u8
     requires { l ≤ 3 }
-    ensures value { result ≡ below_merkle merkle l }
+    ensures value { result ≡ level_below merkle l }
     ensures small { result ≤ 3 }
 {
     if merkle && l < 3 { l + 1 } else { l }
 }
 
 /// One more than the greatest depth of the children at a level, or 0 without children.
-pub fn depth_over(kids: &[ChildInfo], level: u8) -> u32
+pub fn depth_above(kids: &[ChildInfo], level: u8) -> u32
     requires { level ≤ 3 }
     ensures value { result ≡ depth_above level kids.now }
     ensures small { result ≤ 65536 }
@@ -57,7 +57,7 @@ pub fn depth_over(kids: &[ChildInfo], level: u8) -> u32
 }
 
 /// What is hashed for a cell: the descriptors, the contents, the children's depths and their hashes at a level.
-pub fn text_of(face: &Face, mask: Mask, contents: &[u8], level: u8) -> Text
+pub fn text_of(face: &Face, mask: Mask, contents: &[u8], level: u8) -> DigestText
     requires level { level ≤ 3 }
     requires short { length contents.now ≤ 128 }
     ensures { result ≡ representation face.now mask contents.now level }
@@ -70,7 +70,7 @@ pub fn text_of(face: &Face, mask: Mask, contents: &[u8], level: u8) -> Text
 }
 
 // The children's depths at a level, behind the others.
-fn put_depths(text: &mut Text, kids: &[ChildInfo], level: u8)
+fn put_depths(text: &mut DigestText, kids: &[ChildInfo], level: u8)
     requires level { level ≤ 3 }
     requires room { length text.old + 2 * length kids.now ≤ 266 }
     ensures value { text.new ≡ text.old ++ depths_text level kids.now }
@@ -82,7 +82,7 @@ fn put_depths(text: &mut Text, kids: &[ChildInfo], level: u8)
 }
 
 // The children's hashes at a level, behind the others.
-fn put_hashes(text: &mut Text, kids: &[ChildInfo], level: u8)
+fn put_hashes(text: &mut DigestText, kids: &[ChildInfo], level: u8)
     requires level { level ≤ 3 }
     requires room { length text.old + 32 * length kids.now ≤ 266 }
     ensures { text.new ≡ text.old ++ hashes_text level kids.now }
@@ -93,10 +93,10 @@ fn put_hashes(text: &mut Text, kids: &[ChildInfo], level: u8)
 }
 
 // The two descriptors.
-fn head_of(face: &Face, mask: Mask) -> Text
+fn head_of(face: &Face, mask: Mask) -> DigestText
     ensures { result ≡ descriptor1 face.now mask ∷ descriptor2 face.now.bits ∷ [] }
 {
-    let mut text = Text::new();
+    let mut text = DigestText::new();
     text.extend(&face.descriptors(mask));
     text
 }
@@ -108,10 +108,10 @@ pub fn plain_mask(face: &Face, kind: Kind) -> Mask
     ensures { result ≡ mask_of_face face.now }
 {
     match kind {
-        Kind::Ordinary => joined(face.kids()),
+        Kind::Ordinary => all_masks(face.kids()),
         Kind::Pruned => unreachable!(),
         Kind::Library => Mask::NONE,
-        Kind::Proof | Kind::Update => joined(face.kids()).shifted(),
+        Kind::Proof | Kind::Update => all_masks(face.kids()).shifted(),
     }
 }
 
@@ -122,7 +122,7 @@ pub fn plain_depths(face: &Face, mask: Mask, merkle: bool) -> [u32; 4]
     requires merkle { is_merkle (kind_of_face face.now) ≡ merkle }
     ensures { result ≡ plain_depth face.now 0 ∷ plain_depth face.now 1 ∷ plain_depth face.now 2 ∷ plain_depth face.now 3 ∷ [] }
 {
-    let zero = depth_over(face.kids(), kid_level(merkle, 0));
+    let zero = depth_above(face.kids(), level_below(merkle, 0));
     let one = depth_at(face, mask, merkle, 1, zero);
     let two = depth_at(face, mask, merkle, 2, one);
     let three = depth_at(face, mask, merkle, 3, two);
@@ -139,7 +139,7 @@ fn depth_at(face: &Face, mask: Mask, merkle: bool, l: u8, below: u32) -> u32
     if !mask.significant(l) {
         return below;
     }
-    depth_over(face.kids(), kid_level(merkle, l))
+    depth_above(face.kids(), level_below(merkle, l))
 }
 
 /// The hashes of a cell at the four levels, where it is no pruned branch: one digest for each level that is
@@ -151,7 +151,7 @@ pub fn plain_hashes<H: Hash32>(face: &Face, mask: Mask, merkle: bool) -> [Hash25
     ensures { result ≡ plain_hash H.digest_of face.now 0 ∷ plain_hash H.digest_of face.now 1 ∷ plain_hash H.digest_of face.now 2
         ∷ plain_hash H.digest_of face.now 3 ∷ [] }
 {
-    let text = text_of(face, Mask::NONE, face.bits().data(), kid_level(merkle, 0));
+    let text = text_of(face, Mask::NONE, face.bits().data(), level_below(merkle, 0));
     let zero = H::digest(text.bytes());
     let one = hash_at::<H>(face, mask, merkle, 1, zero);
     let two = hash_at::<H>(face, mask, merkle, 2, one);
@@ -169,6 +169,6 @@ fn hash_at<H: Hash32>(face: &Face, mask: Mask, merkle: bool, l: u8, below: Hash2
     if !mask.significant(l) {
         return below;
     }
-    let text = text_of(face, mask.apply(l), &below.0, kid_level(merkle, l));
+    let text = text_of(face, mask.apply(l), &below.0, level_below(merkle, l));
     H::digest(text.bytes())
 }

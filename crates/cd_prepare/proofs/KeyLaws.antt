@@ -16,7 +16,7 @@ use Rattle.cd_cell.specs.Export.{hash_cmp}
 use Rattle.cd_cell.proofs.ExportOrder.{hash_cmp-total}
 use Rattle.cd_cell.proofs.Subtrees.{Contains-cases, Contains-nil}
 use Rattle.cd_cell.proofs.Distinct.{Rises, AllPairs-from_rises}
-use Rattle.cd_boc_read.proofs.HashKeys.{first-lower}
+use Rattle.cd_cell.proofs.NumberedHashes.{first-lower}
 use Rattle.cd_prepare.specs.declared.key.Rank.{Rank}
 use Rattle.cd_prepare.specs.declared.key.Key.{Key}
 use Rattle.cd_prepare.specs.Keys.{rank_cmp, AreSorted}

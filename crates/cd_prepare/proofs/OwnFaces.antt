@@ -25,13 +25,14 @@ use Rattle.cd_cell.specs.Updates.{half_of, is_hidden, some_unless}
 use Rattle.cd_cell.proofs.Subtrees.{Contains-cases, Contains-nil, Contains-first, IsGoodFace-face_of, info_of-face_of, kids-face_of, well_formed-child}
 use Rattle.cd_cell.proofs.Heights.{clear-bit}
 use Rattle.cd_cell.proofs.AppliedUpdates.{find-Some}
-use Rattle.cd_boc_read.specs.CellFaults.{clash_of}
-use Rattle.cd_boc_read.proofs.ClashLaws.{clear-clash_of}
+use Rattle.cd_cell.specs.Clashes.{clash_of}
+use Rattle.cd_cell.proofs.ClashLaws.{clear-clash_of}
 use Rattle.cd_update.specs.EachOnce.{each_once, first_of}
 use Rattle.cd_update.specs.Places.{Place, places}
 use Rattle.cd_update.specs.Pairing.{IsOldInfo}
 use Rattle.cd_update.specs.Grafts.{known_for, grafted_info, grafted_face, own_face_at, foreign_at}
-use Rattle.cd_update.proofs.EachOnceLaws.{Contains-flat_map, Contains-flat_map_cases, Contains-each_once, Contains-each_once_cases, true_or_false}
+use Rattle.cd_update.proofs.EachOnceLaws.{Contains-flat_map, Contains-flat_map_cases, Contains-each_once, Contains-each_once_cases}
+use Rattle.cd_cell.proofs.ListTests.{true_or_false}
 use Rattle.cd_update.proofs.GraftInfos.{IsReady, all-ready, face-good, info-visible, graft-is, or_parts}
 use Rattle.cd_update.proofs.OldTrees.{mask-new, kid-half}
 use Rattle.cd_prepare.proofs.NewLists.{AreClear, HasParent}

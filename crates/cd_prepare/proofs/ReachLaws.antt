@@ -8,7 +8,7 @@ use Rattle.cd_cell.specs.declared.info.ChildInfo.{ChildInfo}
 use Rattle.cd_cell.specs.FaceView.{FaceView}
 use Rattle.cd_cell.specs.CellFaults.{kid_at}
 use Rattle.cd_cell.specs.Tree.{Tree, children, subtrees, info_of}
-use Rattle.cd_cell.specs.Bags.{face_at, ref_at, bag_cell, IsBag}
+use Rattle.cd_cell.specs.Bags.{bag_cell, face_at, ref_at, IsBag}
 use Rattle.cd_cell.proofs.Subtrees.{Contains-first, Contains-cases, Contains-nil, Contains-map, Contains-mapped, subtree-itself, kids-face_of, subtrees-subtree, child-is-subtree, subtrees-cases}
 use Rattle.cd_cell.proofs.BagLaws.{children-bag, face_of-bag, info_of-bag}
 use Rattle.cd_prepare.specs.declared.key.Key.{Key}

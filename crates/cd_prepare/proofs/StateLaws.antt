@@ -8,7 +8,7 @@ use Rattle.cd_cell.specs.declared.new_cell.NewCell.{NewCell}
 use Rattle.cd_cell.specs.FaceView.{FaceView}
 use Rattle.cd_cell.specs.Tree.{Tree, info_of, mask_of}
 use Rattle.cd_cell.specs.Unfolding.{no_tree}
-use Rattle.cd_cell.specs.Bags.{bag_cell, bag_trees, IsBag}
+use Rattle.cd_cell.specs.Bags.{bag_cell, root_trees, IsBag}
 use Rattle.cd_cell.specs.Export.{distinct_cells}
 use Rattle.cd_cell.specs.Listings.{new_cell_of, IsValid, Fits, tree_of}
 use Rattle.cd_cell.proofs.ListedTrees.{IsValid-all_cells, Fits-all_cells, tree_of-all_cells}
@@ -18,7 +18,7 @@ use Rattle.cd_prepare.specs.States.{state_fault, IsWhole}
 use Rattle.cd_prepare.proofs.ListLaws.{well_formed-root, clash_free-root}
 
 -- the only tree is that of the first root
-first-tree : (cells : List FaceView) (refs : List (List ℕ)) (roots : List ℕ) (state : Tree) → 0 < length roots → bag_trees cells refs roots ≡ state ∷ [] → bag_cell cells refs (slice_index roots 0) ≡ state
+first-tree : (cells : List FaceView) (refs : List (List ℕ)) (roots : List ℕ) (state : Tree) → 0 < length roots → root_trees cells refs roots ≡ state ∷ [] → bag_cell cells refs (slice_index roots 0) ≡ state
 first-tree cells refs roots state some only = sym (get_or-map (bag_cell cells refs) roots 0 0 no_tree some) ∙ ap (λ ts. get_or ts 0 no_tree) only
 
 module _ (H : List ℕ → Hash256) (cells : List FaceView) (refs : List (List ℕ)) (roots : List ℕ) (bag : IsBag H cells refs roots) (root : ℕ) (in' : root < length cells) (info : ChildInfo) (listed : List NewCell) (shown : info ≡ info_of H (bag_cell cells refs root)) (all : listed ≡ map (new_cell_of H) (distinct_cells H (bag_cell cells refs root))) where
@@ -43,7 +43,7 @@ module _ (H : List ℕ → Hash256) (cells : List FaceView) (refs : List (List �
         ∙ tree_of-all_cells H t (well_formed-root H cells refs roots bag root in') (clash_free-root H cells refs roots bag root in');
   }
 
-  pub IsWhole-prepared : (state : Tree) → root ≡ slice_index roots 0 → 0 < length roots → bag_trees cells refs roots ≡ state ∷ [] → IsWhole H state info listed
+  pub IsWhole-prepared : (state : Tree) → root ≡ slice_index roots 0 → 0 < length roots → root_trees cells refs roots ≡ state ∷ [] → IsWhole H state info listed
   IsWhole-prepared state first some only =
       subst (λ s. IsWhole H s info listed) (ap (bag_cell cells refs) first ∙ first-tree cells refs roots state some only) whole-root
 

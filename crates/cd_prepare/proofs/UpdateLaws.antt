@@ -21,7 +21,7 @@ use Rattle.cd_cell.proofs.Distinct.{same-rising, rises-from_AllPairs, AreDistinc
 use Rattle.cd_cell.proofs.ExportOrder.{export_cmp-total, export_cmp-ties}
 use Rattle.cd_cell.proofs.ListedTrees.{listing_cmp-new}
 use Rattle.cd_cell.proofs.Showing.{subtree-known}
-use Rattle.cd_boc_read.specs.CellFaults.{clash_of}
+use Rattle.cd_cell.specs.Clashes.{clash_of}
 use Rattle.cd_update.specs.declared.pair_fault.PairFault.{PairFault}
 use Rattle.cd_update.specs.declared.pair_fault.PairFault.TheVariants as pair
 use Rattle.cd_update.specs.declared.graft_fault.GraftFault.{GraftFault}

@@ -11,7 +11,7 @@ use Rattle.cd_cell.specs.Equality.{same_face, same_info}
 use Rattle.cd_cell.specs.Export.{export_cmp, sorted_distinct, AreClashFree}
 use Rattle.cd_cell.specs.Listings.{new_cell_of, Fits, tree_of}
 use Rattle.cd_cell.specs.Updates.{UpdateRefusal, old_hash, old_depth, old_half, foreign, half_of, refusal_of, applied, new_cells}
-use Rattle.cd_boc_read.specs.CellFaults.{clash_of}
+use Rattle.cd_cell.specs.Clashes.{clash_of}
 use Rattle.cd_update.specs.EachOnce.{each_once, first_of}
 use Rattle.cd_update.specs.Places.{places}
 use Rattle.cd_update.specs.Pairing.{known_at, pair_refusal}

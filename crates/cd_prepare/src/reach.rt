@@ -47,8 +47,8 @@ impl Reached {
 pub fn reach<H: Hash32>(alloc: Global, root: &Start<'_, H>) -> Result<Vec<Key>, AllocError>
     ensures { IfOk result (λ keys. AreReached H.digest_of root.now.bag.now.cells root.now.bag.now.refs root.now.number keys.items) }
 {
-    let cells = root.bag.cells.as_slice();
-    let refs = root.bag.refs.as_slice();
+    let cells = root.bag.cells();
+    let refs = root.bag.refs();
     let mut reached = Reached::nothing(alloc, cells.len())?;
     reached.mark(&root.info, root.number)?;
     for number in root.number as usize..cells.len() {

@@ -1,6 +1,6 @@
 ghost use Rattle.std.specs.Prelude.{◌≡◌, ◌<◌, length};
 ghost use Rattle.cd_cell.specs.Tree.{info_of};
-ghost use Rattle.cd_cell.specs.Bags.{bag_cell};
+ghost use Rattle.cd_cell.specs.Bags.{bag_tree, IsBag};
 
 use cd_cell::{Bag, ChildInfo, Hash32};
 
@@ -11,8 +11,9 @@ pub struct Start<'a, H: Hash32> {
     /// The number of the entry.
     pub number: u32,
     pub info: ChildInfo,
+    pub ghost is_bag: { IsBag H.digest_of bag.now.cells bag.now.refs bag.now.roots },
     pub ghost there: { number < length bag.now.cells },
-    pub ghost shown: { info ≡ info_of H.digest_of (bag_cell bag.now.cells bag.now.refs number) },
+    pub ghost shown: { info ≡ info_of H.digest_of (bag_tree bag.now number) },
 }
 
 impl<'a, H: Hash32> Start<'a, H> {

@@ -5,8 +5,8 @@ ghost use Rattle.cd_cell.specs.Infos.{rep_of_info};
 ghost use Rattle.cd_cell.specs.Levels.{info_of_face, stated_hash};
 ghost use Rattle.cd_cell.specs.GoodFace.{IsGoodFace};
 ghost use Rattle.cd_cell.specs.Tree.{Tree, face_of};
-ghost use Rattle.cd_cell.specs.Bags.{bag_cell};
-ghost use Rattle.cd_boc_read.specs.CellFaults.{clash_of};
+ghost use Rattle.cd_cell.specs.Bags.{bag_tree};
+ghost use Rattle.cd_cell.specs.Clashes.{clash_of};
 ghost use Rattle.cd_update.specs.Pairing.{AreOf};
 ghost use Rattle.cd_prepare.specs.NewCells.{AreKeys, AreListed};
 ghost use Rattle.cd_prepare.specs.States.{Answers};
@@ -15,7 +15,7 @@ ghost use Rattle.cd_prepare.specs.Applied.{faces_fault, update_fault, IsApplied}
 use crate::PrepareFault;
 use crate::key::Key;
 use crate::listing::{cells_of, sort};
-use cd_boc_read::least_clash;
+use cd_cell::least_clash;
 use cd_cell::{ChildInfo, Face, Hash32, NewCell, Prepared};
 use cd_update::{Update, graft, pair_old};
 use std::alloc::{AllocError, Global};
@@ -83,14 +83,14 @@ pub fn prepare_update<H: Hash32>(
     root: &ChildInfo,
     faces: &[Option<Face>],
 ) -> Result<Prepared<H>, PrepareFault>
-    ensures old { IfOk result (λ value. value.old ≡ Some (stated_hash (face_of H.digest_of (bag_cell update.now.bag.now.cells update.now.bag.now.refs update.now.root)) 1)) }
-    ensures rep { IfOk result (λ value. rep_of_info value.root ≡ stated_hash (face_of H.digest_of (bag_cell update.now.bag.now.cells update.now.bag.now.refs update.now.root)) 33) }
-    ensures told { Answers (faces_fault H.digest_of (bag_cell update.now.bag.now.cells update.now.bag.now.refs update.now.root) root.now faces.now) result }
+    ensures old { IfOk result (λ value. value.old ≡ Some (stated_hash (face_of H.digest_of (bag_tree update.now.bag.now update.now.root)) 1)) }
+    ensures rep { IfOk result (λ value. rep_of_info value.root ≡ stated_hash (face_of H.digest_of (bag_tree update.now.bag.now update.now.root)) 33) }
+    ensures told { Answers (faces_fault H.digest_of (bag_tree update.now.bag.now update.now.root) root.now faces.now) result }
     // Over an old tree the answer is that of the tree.
-    ensures exact { (t : Tree) → AreOf H.digest_of t (bag_cell update.now.bag.now.cells update.now.bag.now.refs update.now.root) root.now faces.now
-        → Answers (update_fault H.digest_of (bag_cell update.now.bag.now.cells update.now.bag.now.refs update.now.root) t) result }
-    ensures applied { IfOk result (λ value. (t : Tree) → AreOf H.digest_of t (bag_cell update.now.bag.now.cells update.now.bag.now.refs update.now.root) root.now faces.now
-        → IsApplied H.digest_of (bag_cell update.now.bag.now.cells update.now.bag.now.refs update.now.root) t value.root value.cells) }
+    ensures exact { (t : Tree) → AreOf H.digest_of t (bag_tree update.now.bag.now update.now.root) root.now faces.now
+        → Answers (update_fault H.digest_of (bag_tree update.now.bag.now update.now.root) t) result }
+    ensures applied { IfOk result (λ value. (t : Tree) → AreOf H.digest_of t (bag_tree update.now.bag.now update.now.root) root.now faces.now
+        → IsApplied H.digest_of (bag_tree update.now.bag.now update.now.root) t value.root value.cells) }
 {
     let known = match pair_old(alloc, update, root, faces) {
         Ok(known) => known,

@@ -8,6 +8,7 @@ use Rattle.std.proofs.lemmas.Bool.{cases_lt}
 use Rattle.std.proofs.lemmas.List.{append-nil, get_or_append_left, get_or_push, length_push}
 use Rattle.std.proofs.lemmas.List.Elements.{All-push, Contains-get_or, Contains-append_cases, Contains-append_left, Contains-append_right, Contains-push, Contains-push_cases}
 use Rattle.cd_cell.proofs.Subtrees.{Contains-first, Contains-later, Contains-cases, Contains-nil}
+use Rattle.cd_cell.proofs.ListTests.{contains-any, any-contains, true_or_false}
 use Rattle.cd_update.specs.EachOnce.{with_new, each_once, first_of}
 
 pub fold-append : {A B : Type 0} (f : B → A → B) (b : B) (xs ys : List A) → fold f b (xs ++ ys) ≡ fold f (fold f b xs) ys
@@ -38,22 +39,6 @@ Contains-flat_map_cases f (x ∷ xs) y h =
     (λ later. let found = Contains-flat_map_cases f xs y later in (found.0, Contains-later x xs found.0 found.1, found.2))
     (Contains-append_cases (f x) (flat_map f xs) y h)
 
-or-parts : (a b : Bool) → (a || b) ≡ true → (a ≡ true) ⊎ (b ≡ true)
-or-parts true b e = inl refl
-or-parts false b e = inr e
-
-or-left : (a b : Bool) → a ≡ true → (a || b) ≡ true
-or-left true b e = refl
-or-left false b e = absurd (true≢false (sym e))
-
-or-right : (a b : Bool) → b ≡ true → (a || b) ≡ true
-or-right true b e = refl
-or-right false b e = e
-
-pub true_or_false : (b : Bool) → (b ≡ true) ⊎ (b ≡ false)
-true_or_false true = inl refl
-true_or_false false = inr refl
-
 module _ {A B : Type 0} (ask : A → Option B) where
   pub or_none : (o : Option B) → option_or o None ≡ o
   or_none None = refl
@@ -68,24 +53,8 @@ module _ {A B : Type 0} (ask : A → Option B) where
   first_of-append (x ∷ xs) ys = ap (option_or (ask x)) (first_of-append xs ys) ∙ sym (or_assoc (ask x) (first_of ask xs) (first_of ask ys))
 
 module _ {A : Type 0} (same : A → A → Bool) (tells : (a b : A) → Decides (same a b) (a ≡ b)) where
-  pub contains-any : (x : A) (xs : List A) → list_any (same x) xs ≡ true → Contains xs x
-  contains-any x [] e = absurd (true≢false (sym e))
-  contains-any x (y ∷ ys) e =
-      ⊎_elim
-      (λ here. subst (Contains (y ∷ ys)) (sym ((tells x y).0 here)) (Contains-first y ys))
-      (λ later. Contains-later y ys x (contains-any x ys later))
-      (or-parts (same x y) (list_any (same x) ys) e)
-
-  pub any-contains : (x : A) (xs : List A) → Contains xs x → list_any (same x) xs ≡ true
-  any-contains x [] h = absurd (Contains-nil x h)
-  any-contains x (y ∷ ys) h =
-      ⊎_elim
-      (λ here. or-left (same x y) (list_any (same x) ys) ((tells x y).1 (sym here)))
-      (λ later. or-right (same x y) (list_any (same x) ys) (any-contains x ys later))
-      (Contains-cases y ys x h)
-
   pub with_new-there : (xs : List A) (x : A) → Contains xs x → with_new same xs x ≡ xs
-  with_new-there xs x h = ap (λ b. if b then xs else xs ++ x ∷ []) (any-contains x xs h)
+  with_new-there xs x h = ap (λ b. if b then xs else xs ++ x ∷ []) (any-contains same tells x xs h)
 
   pub with_new-absent : (xs : List A) (x : A) → list_any (same x) xs ≡ false → with_new same xs x ≡ xs ++ x ∷ []
   with_new-absent xs x e = ap (λ b. if b then xs else xs ++ x ∷ []) e
@@ -101,7 +70,7 @@ module _ {A : Type 0} (same : A → A → Bool) (tells : (a b : A) → Decides (
   Contains-with_new_itself xs x = go (list_any (same x) xs) refl
     where
       go : (b : Bool) → list_any (same x) xs ≡ b → Contains (if b then xs else xs ++ x ∷ []) x
-      go true e = contains-any x xs e
+      go true e = contains-any same tells x xs e
       go false e = Contains-push xs x
 
   Contains-with_new_cases : (xs : List A) (x y : A) → Contains (with_new same xs x) y → Contains xs y ⊎ (x ≡ y)
@@ -164,7 +133,7 @@ module _ {A : Type 0} (same : A → A → Bool) (tells : (a b : A) → Decides (
     first_of-with_new : (xs : List A) (x : A) → first_of ask (with_new same xs x) ≡ option_or (first_of ask xs) (ask x)
     first_of-with_new xs x =
         ⊎_elim
-        (λ e. ap (first_of ask) (with_new-there xs x (contains-any x xs e)) ∙ sym (first_of-there xs x (contains-any x xs e)))
+        (λ e. ap (first_of ask) (with_new-there xs x (contains-any same tells x xs e)) ∙ sym (first_of-there xs x (contains-any same tells x xs e)))
         (λ e. ap (first_of ask) (with_new-absent xs x e) ∙ first_of-append ask xs (x ∷ []) ∙ ap (option_or (first_of ask xs)) (or_none ask (ask x)))
         (true_or_false (list_any (same x) xs))
 

@@ -15,7 +15,7 @@ use Rattle.cd_cell.specs.Unfolding.{no_tree}
 use Rattle.cd_cell.specs.Updates.{matches, is_hidden, stands_for, some_unless}
 use Rattle.cd_cell.proofs.Subtrees.{Contains-cases, Contains-nil, length-infos_of}
 use Rattle.cd_cell.proofs.Heights.{IsSteady-infos_of, IsSteady-info_of_face}
-use Rattle.cd_cell.proofs.LevelRecursions.{below_merkle-low}
+use Rattle.cd_cell.proofs.LevelRecursions.{level_below-low}
 use Rattle.cd_cell.proofs.Showing.{matches-Decides}
 use Rattle.cd_cell.proofs.Grafting.{IsKept, AreKept, length-kept, low-whole, mask_of_face-kept, kids-low, IsKept-info, IsFaceFit-kept}
 use Rattle.cd_cell.proofs.AppliedUpdates.{find-Some}
@@ -94,7 +94,7 @@ module _ (H : List ℕ → Hash256) (known : List ChildInfo) (old : All IsOldInf
         graft-step n d (is_hidden d (face_of H n)) (info_of_face H (record { exotic = exotic; bits = bits; kids = grafted_infos H known ns kd })) (places_of_all H ns kd)
         (λ e. found-step n d (known_for known (info_of H n) d) (found-known n d) e)
         (λ h e. visible-found exotic bits ns (grafted_infos H known ns kd) d top good low h
-        (grafts-are ns kd (below_merkle-low (is_merkle (kind_of_face (face_of H n))) d top) good.3 (kids-low exotic bits (infos_of H ns) (infos_of H ns) d top small good.2 low) e))
+        (grafts-are ns kd (level_below-low (is_merkle (kind_of_face (face_of H n))) d top) good.3 (kids-low exotic bits (infos_of H ns) (infos_of H ns) d top small good.2 low) e))
         none
 
     grafts-are : (ns : Trees) (d : ℕ) → d ≤ 3 → AreWellFormed H ns → All (λ k. k.mask < 2 ^ (d + 1)) (infos_of H ns) → first_of (foreign_at H known) (places_of_all H ns d) ≡ None → AreFound d (infos_of H ns) (grafted_infos H known ns d)
@@ -109,7 +109,7 @@ module _ (H : List ℕ → Hash256) (known : List ChildInfo) (old : All IsOldInf
   kids-are exotic bits ns d top good low none =
       let shown = face_of H (cell exotic bits ns) in
       let small : All (λ k. k.mask ≤ 7) (infos_of H ns) = λ k x in'. (IsSteady-infos_of H ns good.3 k x in').small in
-      grafts-are ns (kid_level shown d) (below_merkle-low (is_merkle (kind_of_face shown)) d top) good.3 (kids-low exotic bits (infos_of H ns) (infos_of H ns) d top small good.2 low) none
+      grafts-are ns (kid_level shown d) (level_below-low (is_merkle (kind_of_face shown)) d top) good.3 (kids-low exotic bits (infos_of H ns) (infos_of H ns) d top small good.2 low) none
 
   -- ---- the places of a half whose hidden cells are known
 
@@ -139,7 +139,7 @@ module _ (H : List ℕ → Hash256) (known : List ChildInfo) (old : All IsOldInf
         (λ later.
         rest_if (is_hidden d shown) (places_of_all H ns kd) q (IsReady q) later
         (λ e rest.
-        all-ready_of_all ns kd q (below_merkle-low (is_merkle (kind_of_face shown)) d ready.depth) ready.well.3 (kids-low exotic bits (infos_of H ns) (infos_of H ns) d ready.depth small ready.well.2 ready.low)
+        all-ready_of_all ns kd q (level_below-low (is_merkle (kind_of_face shown)) d ready.depth) ready.well.3 (kids-low exotic bits (infos_of H ns) (infos_of H ns) d ready.depth small ready.well.2 ready.low)
         (none_if (is_hidden d shown) (some_unless (is_some (known_for known (info_of H n) d)) (hash_at H n d)) (places_of_all H ns kd) e ready.none) rest))
         (Contains-cases (record { tree = n; depth = d }) (if is_hidden d shown then [] else places_of_all H ns kd) q in')
 

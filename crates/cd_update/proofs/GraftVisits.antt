@@ -15,7 +15,7 @@ use Rattle.cd_cell.specs.Tree.{Tree, cell, Trees, no_trees, tree_and, list_of, c
 use Rattle.cd_cell.specs.Unfolding.{no_tree}
 use Rattle.cd_cell.specs.Equality.{same_info}
 use Rattle.cd_cell.specs.Updates.{is_hidden, some_unless}
-use Rattle.cd_cell.specs.Bags.{face_at, bag_cell, IsBag}
+use Rattle.cd_cell.specs.Bags.{bag_cell, face_at, IsBag}
 use Rattle.cd_cell.proofs.Subtrees.{Contains-mapped}
 use Rattle.cd_cell.proofs.BagLaws.{well_formed-bag}
 use Rattle.cd_update.specs.declared.visit.Node.{Node}
@@ -26,7 +26,8 @@ use Rattle.cd_update.specs.Nodes.{same_node, node, next_nodes, nodes_from, IsSho
 use Rattle.cd_update.specs.Visits.{spot, nodes_of, no_visit, visit_at, place_of, IsNumbered}
 use Rattle.cd_update.specs.Pairing.{upto, IsOldInfo}
 use Rattle.cd_update.specs.Grafts.{known_for, grafted_info, grafted_infos, grafted_face, foreign_at, IsGrafting, AreGrafted}
-use Rattle.cd_update.proofs.EachOnceLaws.{true_or_false, any-contains, Contains-each_once, Contains-each_once_cases}
+use Rattle.cd_update.proofs.EachOnceLaws.{Contains-each_once, Contains-each_once_cases}
+use Rattle.cd_cell.proofs.ListTests.{true_or_false, any-contains}
 use Rattle.cd_update.proofs.Walks.{whole-next, whole-below, whole-itself}
 use Rattle.cd_update.proofs.VisitLaws.{same_node-Decides}
 use Rattle.cd_update.proofs.BagNodes.{next-rises, places-nodes, places-step}

@@ -11,7 +11,7 @@ use Rattle.cd_cell.specs.Levels.{info_of_face}
 use Rattle.cd_cell.specs.Infos.{rep_of_info}
 use Rattle.cd_cell.specs.Equality.{same_hash, same_hash-Decides, same_info, same_info-Decides, same_face, same_face-Decides}
 use Rattle.cd_cell.proofs.Subtrees.{Contains-mapped}
-use Rattle.cd_update.proofs.EachOnceLaws.{contains-any, any-contains, true_or_false}
+use Rattle.cd_cell.proofs.ListTests.{contains-any, any-contains, true_or_false}
 
 pub no_rep : (infos : List ChildInfo) (info : ChildInfo) → list_any (same_hash (rep_of_info info)) (map rep_of_info infos) ≡ false → list_any (same_info info) infos ≡ false
 no_rep infos info none =

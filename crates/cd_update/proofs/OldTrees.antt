@@ -20,7 +20,7 @@ use Rattle.cd_cell.specs.Equality.{same_hash, same_hash-Decides}
 use Rattle.cd_cell.specs.Updates.{matches, Matches, agrees, is_hidden, Unless, Misfit, UpdateRefusal, some_unless, old_half, half_of, hash_refusal, depth_refusal, half_refusal, wanted, wanted_of_all, Shows, ShowAll, misfit, misfit_of_all, known_cells, known_of_all}
 use Rattle.cd_cell.proofs.Subtrees.{Contains-first, Contains-later, subtree-itself, subtrees-child, kids-face_of, info_of-face_of, IsGoodFace-face_of}
 use Rattle.cd_cell.proofs.Grafting.{joined-bound}
-use Rattle.cd_cell.proofs.LevelRecursions.{below_merkle-low}
+use Rattle.cd_cell.proofs.LevelRecursions.{level_below-low}
 use Rattle.cd_cell.proofs.Heights.{IsSteady-info_of}
 use Rattle.cd_cell.proofs.Showing.{matches-Decides, Shows-from_misfit}
 use Rattle.cd_cell.proofs.Wanted.{same_kind, IsOld, rep-flat, old-children}
@@ -54,7 +54,7 @@ module _ (H : List ℕ → Hash256) where
         known-step (is_hidden d shown) (agrees d (face_of H t) shown) (upto d (info_of H o)) [] (places_of_all H os kd) t (known_of_all H os (children t) kd) (ShowAll H os (children t) kd) shows
         (info-old o t d top old same)
         (λ agree all.
-        known-of_all os (children t) kd (below_merkle-low (is_merkle (kind_of_face shown)) d top)
+        known-of_all os (children t) kd (level_below-low (is_merkle (kind_of_face shown)) d top)
         (λ c in'. subst (λ l. IsOld H l c) (same_kind d (face_of H t) shown agree) (old-children H t d top old c in'))
         (kids-matching d exotic bits os t agree) all)
 
@@ -98,7 +98,7 @@ module _ (H : List ℕ → Hash256) where
           let in' = wanted_if hidden (hash_at H o d) (wanted_of_all H os kd) e within (hash_at H o d) (Contains-first (hash_at H o d) (wanted_of_all H os kd)) in
           ap look rep ∙ found t (below t (subtree-itself t)) (subst (Contains ws) rep in'))
           (λ e agree.
-          misfit-of_all os (children t) kd (below_merkle-low (is_merkle (kind_of_face shown)) d top)
+          misfit-of_all os (children t) kd (level_below-low (is_merkle (kind_of_face shown)) d top)
           (λ c in'. subst (λ l. IsOld H l c) (same_kind d (face_of H t) shown agree) (old-children H t d top old c in'))
           (kids-matching d exotic bits os t agree)
           (λ c s in' sub. below s (subtrees-child t c s in' sub))

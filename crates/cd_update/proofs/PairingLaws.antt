@@ -17,7 +17,8 @@ use Rattle.cd_update.specs.Places.{Place}
 use Rattle.cd_update.specs.Visits.{visit_at, place_of, visited}
 use Rattle.cd_update.specs.Pairing.{beside, unlike, visible_hash, wanted_at, misfit_at}
 use Rattle.cd_update.specs.Faults.{told}
-use Rattle.cd_update.proofs.EachOnceLaws.{IsOnce, IsOnce-each_once, added-extends, fold-append, flat_map-append, true_or_false}
+use Rattle.cd_update.proofs.EachOnceLaws.{IsOnce, IsOnce-each_once, added-extends, fold-append, flat_map-append}
+use Rattle.cd_cell.proofs.ListTests.{true_or_false}
 use Rattle.cd_update.proofs.PlaceLaws.{visited-append, each_once-more}
 
 -- ---- what stands beside a hash

@@ -1,4 +1,4 @@
--- Laws of visits and their numbers, and of the index of a list.
+-- Laws of visits and their numbers.
 use Rattle.std.proofs.Common.{◌≡◌, ◌≢◌, ℕ, ◌<◌, ◌≤◌, List, [], ◌∷◌, ◌++◌, length, get_or, set, Contains, Bool, true, false, true≢false, Option, Some, None, refl, ap, ap₂, sym, ◌∙◌, subst, ⊎_elim, get_or-set_same, get_or-set_other, arith}
 use Rattle.std.specs.Prelude.{if◌then◌else◌, is_some, MatchOption}
 use Rattle.std.specs.Bool.{Decides}
@@ -19,11 +19,11 @@ use Rattle.cd_cell.specs.Export.{hash_cmp}
 use Rattle.cd_cell.proofs.ExportOrder.{hash_cmp-ties, hash_cmp-total}
 use Rattle.cd_update.specs.declared.visit.Node.{Node}
 use Rattle.cd_update.specs.declared.visit.Visit.{Visit}
-use Rattle.cd_update.specs.declared.index.Index.{Index}
+use Rattle.cd_cell.specs.declared.index.Index.{Index}
 use Rattle.cd_update.specs.Nodes.{same_node}
 use Rattle.cd_update.specs.Visits.{spot, nodes_of, no_visit, visit_at, IsNumbered}
-use Rattle.cd_update.specs.Indexes.{IsIndex}
-use Rattle.cd_update.proofs.EachOnceLaws.{contains-any, any-contains, true_or_false}
+use Rattle.cd_cell.specs.Indexes.{IsIndex}
+use Rattle.cd_cell.proofs.ListTests.{contains-any, any-contains, true_or_false}
 
 pub same_node-Decides : (a b : Node) → Decides (same_node a b) (a ≡ b)
 same_node-Decides a b =
@@ -113,49 +113,3 @@ module _ (numbers : List (Option ℕ)) (visits : List Visit) (numbered : IsNumbe
             (omega (arith, old.0, length_push visits v), ap (λ w. spot w.node) (before k old.0) ∙ old.1))
             (cases_eq t s);
       }
-
--- ---- the index of a list
-
-tie : (r : Ordering) → is_eq r ≡ true → r ≡ Equal
-tie Less e = cc
-tie Equal e = refl
-tie Greater e = cc
-
-pub IsIndex-kept : (old new : Index) → new.places.entries ≡ old.places.entries → (keys : List Hash256) → IsIndex old keys → IsIndex new keys
-IsIndex-kept old new same keys index =
-    let all = λ (q : Hash256). let found : get hash_cmp new.places q ≡ get hash_cmp old.places q = rw same in found in
-    record {
-      found = λ q p e. index.found q p (sym (all q) ∙ e);
-      absent = λ q e. index.absent q (sym (all q) ∙ e);
-    }
-
-pub IsIndex-pushed : (old new : Index) (hash : Hash256) (place : ℕ) → ((q : Hash256) → get hash_cmp new.places q ≡ (if is_eq (hash_cmp hash q) then Some place else get hash_cmp old.places q)) → (keys : List Hash256) → IsIndex old keys → place ≡ length keys → IsIndex new (keys ++ hash ∷ [])
-IsIndex-pushed old new hash place updates keys index at = record {
-  found = λ q p e. found q p (is_eq (hash_cmp hash q)) refl (sym (updates q) ∙ e);
-  absent = λ q e. absent q (is_eq (hash_cmp hash q)) refl (sym (updates q) ∙ e);
-}
-  where
-    all : List Hash256
-    all = keys ++ hash ∷ []
-
-    found : (q : Hash256) (p : ℕ) (b : Bool) → is_eq (hash_cmp hash q) ≡ b → (if b then Some place else get hash_cmp old.places q) ≡ Some p → (p < length (keys ++ hash ∷ [])) × (get_or (keys ++ hash ∷ []) p no_hash ≡ q)
-    found q p true t e =
-        let same : hash ≡ q = hash_cmp-ties hash q (tie _ t) in
-        let number : p ≡ length keys = cc (e, at) in
-        (omega (arith, number, length_push keys hash), get_or_push keys hash no_hash p (sym number) ∙ same)
-    found q p false t e =
-        let there = index.found q p e in
-        (omega (arith, there.0, length_push keys hash), get_or_append_left keys (hash ∷ []) no_hash p there.0 ∙ there.1)
-
-    absent : (q : Hash256) (b : Bool) → is_eq (hash_cmp hash q) ≡ b → (if b then Some place else get hash_cmp old.places q) ≡ None → list_any (same_hash q) (keys ++ hash ∷ []) ≡ false
-    absent q true t e = cc
-    absent q false t e =
-        let none = index.absent q e in
-        ⊎_elim
-        (λ seen.
-        ⊎_elim
-        (λ before. absurd (true≢false (sym (any-contains same_hash same_hash-Decides q keys before) ∙ none)))
-        (λ same. absurd (true≢false (sym (ap is_eq (tied_itself hash_cmp-total hash)) ∙ ap (λ h. is_eq (hash_cmp hash h)) same ∙ t)))
-        (Contains-push_cases keys hash q (contains-any same_hash same_hash-Decides q (keys ++ hash ∷ []) seen)))
-        (λ free. free)
-        (true_or_false (list_any (same_hash q) (keys ++ hash ∷ [])))

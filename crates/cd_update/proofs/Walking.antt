@@ -14,7 +14,7 @@ use Rattle.cd_update.specs.declared.visit.Visit.{Visit}
 use Rattle.cd_update.specs.EachOnce.{with_new, each_once}
 use Rattle.cd_update.specs.Nodes.{same_node, node, next_nodes, nodes_from, IsShown}
 use Rattle.cd_update.specs.Visits.{nodes_of}
-use Rattle.cd_update.proofs.EachOnceLaws.{contains-any}
+use Rattle.cd_cell.proofs.ListTests.{contains-any}
 use Rattle.cd_update.proofs.Walks.{IsSettled, settled-start, settled-seen, settled-new, left-seen, left-new, fewer-seen, fewer-new}
 use Rattle.cd_update.proofs.VisitLaws.{same_node-Decides}
 use Rattle.cd_update.proofs.BagNodes.{next-rises}

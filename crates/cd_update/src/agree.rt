@@ -3,7 +3,7 @@ ghost use Rattle.std.specs.Cmp.Lexicographic.{pointwise};
 ghost use Rattle.cd_cell.specs.Masks.{lowest_bits};
 ghost use Rattle.cd_cell.specs.Updates.{same_at, same_upto, matches, agrees};
 
-use crate::hidden::below;
+use crate::hidden::kid_level;
 use cd_cell::{ChildInfo, Face};
 
 /// Whether two cells have one hash and one depth at a level.
@@ -58,5 +58,5 @@ pub(crate) fn agree(stored: &Face, shown: &Face, depth: u8) -> bool
 {
     stored.exotic() == shown.exotic()
         && stored.bits() == shown.bits()
-        && are_all_matching(stored.kids(), shown.kids(), below(shown, depth))
+        && are_all_matching(stored.kids(), shown.kids(), kid_level(shown, depth))
 }

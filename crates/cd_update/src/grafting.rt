@@ -4,7 +4,7 @@ ghost use Rattle.cd_cell.specs.Levels.{info_of_face};
 ghost use Rattle.cd_cell.specs.Tree.{Tree, info_of, face_of};
 ghost use Rattle.cd_cell.specs.Equality.{same_info, same_face};
 ghost use Rattle.cd_cell.specs.CellFaults.{no_info};
-ghost use Rattle.cd_cell.specs.Bags.{bag_cell, face_at};
+ghost use Rattle.cd_cell.specs.Bags.{bag_tree, face_at, IsBag};
 ghost use Rattle.cd_cell.specs.Updates.{half_of, is_hidden, found_in, first_foreign, grafted, own_cells};
 ghost use Rattle.cd_update.specs.EachOnce.{each_once, first_of};
 ghost use Rattle.cd_update.specs.Places.{places};
@@ -14,7 +14,7 @@ ghost use Rattle.cd_update.specs.Grafts.{grafted_info, grafted_face, own_face_at
 ghost use Rattle.cd_update.specs.Faults.{foreign_hash};
 
 use crate::graft_fault::GraftFault;
-use crate::hidden::{below, is_hidden, shown_info};
+use crate::hidden::{is_hidden, kid_level, shown_info};
 use crate::known::{Known, has};
 use crate::own::Own;
 use crate::update::Update;
@@ -85,10 +85,10 @@ fn new_face<H: Hash32>(
     requires visible { is_hidden visit.now.node.depth (face_at bag.now.cells visit.now.node.entry) ≡ false }
     requires grafting { IsGrafting H.digest_of known.now.infos bag.now.cells bag.now.refs start.now walk.now.visits.items walk.now.numbers.items }
     requires grafted { AreGrafted H.digest_of known.now.infos bag.now.cells bag.now.refs walk.now.visits.items (spot visit.now.node + 1) infos.now }
-    ensures { result ≡ grafted_face H.digest_of known.now.infos (bag_cell bag.now.cells bag.now.refs visit.now.node.entry) visit.now.node.depth }
+    ensures { result ≡ grafted_face H.digest_of known.now.infos (bag_tree bag.now visit.now.node.entry) visit.now.node.depth }
 {
     let shown = bag.face(visit.node.entry);
-    let depth = below(shown, visit.node.depth);
+    let depth = kid_level(shown, visit.node.depth);
     let mut face = Face::new(shown.exotic(), *shown.bits(), &[]);
     for child in bag.children(visit.node.entry) {
         let node = Node {
@@ -113,10 +113,10 @@ fn is_unchanged<H: Hash32>(
     requires visible { is_hidden visit.now.node.depth (face_at bag.now.cells visit.now.node.entry) ≡ false }
     requires grafting { IsGrafting H.digest_of known.now.infos bag.now.cells bag.now.refs start.now walk.now.visits.items walk.now.numbers.items }
     requires grafted { AreGrafted H.digest_of known.now.infos bag.now.cells bag.now.refs walk.now.visits.items (spot visit.now.node + 1) infos.now }
-    ensures { IsTrue result ↔ (grafted_face H.digest_of known.now.infos (bag_cell bag.now.cells bag.now.refs visit.now.node.entry) visit.now.node.depth ≡ face_at bag.now.cells visit.now.node.entry) }
+    ensures { IsTrue result ↔ (grafted_face H.digest_of known.now.infos (bag_tree bag.now visit.now.node.entry) visit.now.node.depth ≡ face_at bag.now.cells visit.now.node.entry) }
 {
     let shown = bag.face(visit.node.entry);
-    let depth = below(shown, visit.node.depth);
+    let depth = kid_level(shown, visit.node.depth);
     let kids = shown.kids();
     let children = bag.children(visit.node.entry);
     for (place, child) in children.iter().enumerate() {
@@ -144,7 +144,7 @@ fn new_info<H: Hash32>(
     requires visited { Contains walk.now.visits.items visit.now }
     requires grafting { IsGrafting H.digest_of known.now.infos bag.now.cells bag.now.refs start.now walk.now.visits.items walk.now.numbers.items }
     requires grafted { AreGrafted H.digest_of known.now.infos bag.now.cells bag.now.refs walk.now.visits.items (spot visit.now.node + 1) infos.now }
-    ensures { result ≡ grafted_info H.digest_of known.now.infos (bag_cell bag.now.cells bag.now.refs visit.now.node.entry) visit.now.node.depth }
+    ensures { result ≡ grafted_info H.digest_of known.now.infos (bag_tree bag.now visit.now.node.entry) visit.now.node.depth }
 {
     let info = shown_info(bag, visit);
     let shown = bag.face(visit.node.entry);
@@ -227,8 +227,9 @@ fn grafted_of<H: Hash32>(
     start: &Visit,
     known: &Known,
 ) -> Result<Grafted, Memory>
-    requires { IsGrafting H.digest_of known.now.infos bag.now.cells bag.now.refs start.now walk.now.visits.items walk.now.numbers.items }
-    ensures root { IfOk result (λ grafted. grafted.root ≡ grafted_info H.digest_of known.now.infos (bag_cell bag.now.cells bag.now.refs start.now.node.entry) start.now.node.depth) }
+    requires kept { IsBag H.digest_of bag.now.cells bag.now.refs bag.now.roots }
+    requires grafting { IsGrafting H.digest_of known.now.infos bag.now.cells bag.now.refs start.now walk.now.visits.items walk.now.numbers.items }
+    ensures root { IfOk result (λ grafted. grafted.root ≡ grafted_info H.digest_of known.now.infos (bag_tree bag.now start.now.node.entry) start.now.node.depth) }
     ensures cells { IfOk result (λ grafted. grafted.cells ≡ each_once same_face (flat_map (own_face_at H.digest_of known.now.infos) (visited bag.now.cells bag.now.refs walk.now.visits.items))) }
     ensures infos { IfOk result (λ grafted. grafted.infos ≡ map (info_of_face H.digest_of) grafted.cells) }
 {
@@ -251,17 +252,17 @@ pub fn graft<H: Hash32>(
     update: &Update<'_, H>,
     known: &Known,
 ) -> Result<Grafted, GraftFault>
-    ensures refused { MatchResult result (λ _. first_of (foreign_at H.digest_of known.now.infos) (places H.digest_of (half_of (bag_cell update.now.bag.now.cells update.now.bag.now.refs update.now.root) 1) 0) ≡ None)
-        (λ fault. (fault ≡ GraftFault.Memory) ⊎ (foreign_hash fault ≡ first_of (foreign_at H.digest_of known.now.infos) (places H.digest_of (half_of (bag_cell update.now.bag.now.cells update.now.bag.now.refs update.now.root) 1) 0))) }
-    ensures root { IfOk result (λ new. new.root ≡ grafted_info H.digest_of known.now.infos (half_of (bag_cell update.now.bag.now.cells update.now.bag.now.refs update.now.root) 1) 0) }
-    ensures cells { IfOk result (λ new. new.cells ≡ each_once same_face (flat_map (own_face_at H.digest_of known.now.infos) (places H.digest_of (half_of (bag_cell update.now.bag.now.cells update.now.bag.now.refs update.now.root) 1) 0))) }
+    ensures refused { MatchResult result (λ _. first_of (foreign_at H.digest_of known.now.infos) (places H.digest_of (half_of (bag_tree update.now.bag.now update.now.root) 1) 0) ≡ None)
+        (λ fault. (fault ≡ GraftFault.Memory) ⊎ (foreign_hash fault ≡ first_of (foreign_at H.digest_of known.now.infos) (places H.digest_of (half_of (bag_tree update.now.bag.now update.now.root) 1) 0))) }
+    ensures root { IfOk result (λ new. new.root ≡ grafted_info H.digest_of known.now.infos (half_of (bag_tree update.now.bag.now update.now.root) 1) 0) }
+    ensures cells { IfOk result (λ new. new.cells ≡ each_once same_face (flat_map (own_face_at H.digest_of known.now.infos) (places H.digest_of (half_of (bag_tree update.now.bag.now update.now.root) 1) 0))) }
     ensures infos { IfOk result (λ new. new.infos ≡ map (info_of_face H.digest_of) new.cells) }
     // Over known trees the refusal, the root and the cells are those of the grafted tree.
     ensures tree { (ts : List Tree) → known.now.infos ≡ each_once same_info (map (info_of H.digest_of) ts) → MatchResult result
-        (λ new. (first_foreign H.digest_of (found_in H.digest_of ts) (half_of (bag_cell update.now.bag.now.cells update.now.bag.now.refs update.now.root) 1) 0 ≡ None)
-        × (new.root ≡ info_of H.digest_of (grafted H.digest_of (found_in H.digest_of ts) (half_of (bag_cell update.now.bag.now.cells update.now.bag.now.refs update.now.root) 1) 0))
-        × (new.cells ≡ each_once same_face (map (face_of H.digest_of) (own_cells H.digest_of (found_in H.digest_of ts) (half_of (bag_cell update.now.bag.now.cells update.now.bag.now.refs update.now.root) 1) 0))))
-        (λ fault. (fault ≡ GraftFault.Memory) ⊎ (foreign_hash fault ≡ first_foreign H.digest_of (found_in H.digest_of ts) (half_of (bag_cell update.now.bag.now.cells update.now.bag.now.refs update.now.root) 1) 0)) }
+        (λ new. (first_foreign H.digest_of (found_in H.digest_of ts) (half_of (bag_tree update.now.bag.now update.now.root) 1) 0 ≡ None)
+        × (new.root ≡ info_of H.digest_of (grafted H.digest_of (found_in H.digest_of ts) (half_of (bag_tree update.now.bag.now update.now.root) 1) 0))
+        × (new.cells ≡ each_once same_face (map (face_of H.digest_of) (own_cells H.digest_of (found_in H.digest_of ts) (half_of (bag_tree update.now.bag.now update.now.root) 1) 0))))
+        (λ fault. (fault ≡ GraftFault.Memory) ⊎ (foreign_hash fault ≡ first_foreign H.digest_of (found_in H.digest_of ts) (half_of (bag_tree update.now.bag.now update.now.root) 1) 0)) }
 {
     let start = update.half(1);
     let Ok(walk) = visit_all(alloc, update.bag, start) else {

@@ -2,9 +2,9 @@ ghost use Rattle.std.specs.Prelude.{◌≡◌, ◌<◌, length, [], slice_index_
 ghost use Rattle.cd_cell.specs.Infos.{no_hash};
 ghost use Rattle.cd_cell.specs.Equality.{same_hash};
 ghost use Rattle.cd_update.specs.EachOnce.{with_new};
-ghost use Rattle.cd_update.specs.Indexes.{IsIndex};
+ghost use Rattle.cd_cell.specs.Indexes.{IsIndex};
 
-use crate::index::Index;
+use cd_cell::Index;
 use cd_base::{Hash256, Memory};
 use std::alloc::Global;
 

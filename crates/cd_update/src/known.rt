@@ -3,10 +3,10 @@ ghost use Rattle.std.specs.List.{list_any};
 ghost use Rattle.cd_cell.specs.Infos.{rep_of_info};
 ghost use Rattle.cd_cell.specs.Equality.{same_info};
 ghost use Rattle.cd_update.specs.EachOnce.{with_new};
-ghost use Rattle.cd_update.specs.Indexes.{IsIndex};
+ghost use Rattle.cd_cell.specs.Indexes.{IsIndex};
 ghost use Rattle.cd_update.specs.Pairing.{IsOldInfo};
 
-use crate::index::Index;
+use cd_cell::Index;
 use cd_base::Memory;
 use cd_cell::{ChildInfo, Listed};
 use std::alloc::Global;

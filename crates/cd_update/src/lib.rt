@@ -6,7 +6,6 @@ mod graft_fault;
 mod grafting;
 mod hashes;
 mod hidden;
-mod index;
 mod known;
 mod own;
 mod pair_fault;

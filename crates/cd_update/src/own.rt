@@ -4,9 +4,9 @@ ghost use Rattle.cd_cell.specs.Infos.{rep_of_info};
 ghost use Rattle.cd_cell.specs.Levels.{info_of_face};
 ghost use Rattle.cd_cell.specs.Equality.{same_face};
 ghost use Rattle.cd_update.specs.EachOnce.{with_new};
-ghost use Rattle.cd_update.specs.Indexes.{IsIndex};
+ghost use Rattle.cd_cell.specs.Indexes.{IsIndex};
 
-use crate::index::Index;
+use cd_cell::Index;
 use cd_base::Memory;
 use cd_cell::{ChildInfo, Face, Hash32};
 use std::alloc::Global;

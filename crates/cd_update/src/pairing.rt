@@ -3,7 +3,7 @@ ghost use Rattle.std.specs.List.{flat_map};
 ghost use Rattle.std.specs.Option.{option_map};
 ghost use Rattle.cd_cell.specs.Tree.{Tree, info_of, hash_at, depth_at};
 ghost use Rattle.cd_cell.specs.Equality.{same_hash, same_info};
-ghost use Rattle.cd_cell.specs.Bags.{bag_cell};
+ghost use Rattle.cd_cell.specs.Bags.{bag_tree};
 ghost use Rattle.cd_cell.specs.Updates.{half_of, old_half, known_of};
 ghost use Rattle.cd_update.specs.EachOnce.{each_once, first_of};
 ghost use Rattle.cd_update.specs.Places.{places};
@@ -29,8 +29,8 @@ use std::alloc::Global;
 /// Whether an update states the hash and the depth of an old root at level 0.
 fn check_root<H: Hash32>(update: &Update<'_, H>, root: &ChildInfo) -> Result<(), PairFault>
     ensures { MatchResult result
-        (λ _. root_refusal (hash_at H.digest_of (half_of (bag_cell update.now.bag.now.cells update.now.bag.now.refs update.now.root) 0) 0) (depth_at H.digest_of (half_of (bag_cell update.now.bag.now.cells update.now.bag.now.refs update.now.root) 0) 0) root.now ≡ None)
-        (λ fault. root_refusal (hash_at H.digest_of (half_of (bag_cell update.now.bag.now.cells update.now.bag.now.refs update.now.root) 0) 0) (depth_at H.digest_of (half_of (bag_cell update.now.bag.now.cells update.now.bag.now.refs update.now.root) 0) 0) root.now ≡ told fault) }
+        (λ _. root_refusal (hash_at H.digest_of (half_of (bag_tree update.now.bag.now update.now.root) 0) 0) (depth_at H.digest_of (half_of (bag_tree update.now.bag.now update.now.root) 0) 0) root.now ≡ None)
+        (λ fault. root_refusal (hash_at H.digest_of (half_of (bag_tree update.now.bag.now update.now.root) 0) 0) (depth_at H.digest_of (half_of (bag_tree update.now.bag.now update.now.root) 0) 0) root.now ≡ told fault) }
 {
     let half = shown_info(update.bag, &update.half(0));
     let stated = half.hash_at(0);
@@ -125,14 +125,14 @@ pub fn pair_old<H: Hash32>(
     root: &ChildInfo,
     faces: &[Option<Face>],
 ) -> Result<Known, PairFault>
-    ensures refused { MatchResult result (λ _. pair_refusal H.digest_of (bag_cell update.now.bag.now.cells update.now.bag.now.refs update.now.root) root.now faces.now ≡ None)
-        (λ fault. (fault ≡ PairFault.Memory) ⊎ (told fault ≡ pair_refusal H.digest_of (bag_cell update.now.bag.now.cells update.now.bag.now.refs update.now.root) root.now faces.now)) }
-    ensures infos { IfOk result (λ known. known.infos ≡ each_once same_info (flat_map (known_at H.digest_of) (places H.digest_of (half_of (bag_cell update.now.bag.now.cells update.now.bag.now.refs update.now.root) 0) 0))) }
+    ensures refused { MatchResult result (λ _. pair_refusal H.digest_of (bag_tree update.now.bag.now update.now.root) root.now faces.now ≡ None)
+        (λ fault. (fault ≡ PairFault.Memory) ⊎ (told fault ≡ pair_refusal H.digest_of (bag_tree update.now.bag.now update.now.root) root.now faces.now)) }
+    ensures infos { IfOk result (λ known. known.infos ≡ each_once same_info (flat_map (known_at H.digest_of) (places H.digest_of (half_of (bag_tree update.now.bag.now update.now.root) 0) 0))) }
     // Over an old tree the refusals are those of the tree, and the known cells are its cells.
-    ensures tree { (t : Tree) → AreOf H.digest_of t (bag_cell update.now.bag.now.cells update.now.bag.now.refs update.now.root) root.now faces.now → MatchResult result
-        (λ known. (tree_refusal H.digest_of (bag_cell update.now.bag.now.cells update.now.bag.now.refs update.now.root) t ≡ None)
-        × (known.infos ≡ each_once same_info (map (info_of H.digest_of) (known_of H.digest_of (bag_cell update.now.bag.now.cells update.now.bag.now.refs update.now.root) t))))
-        (λ fault. (fault ≡ PairFault.Memory) ⊎ (told fault ≡ tree_refusal H.digest_of (bag_cell update.now.bag.now.cells update.now.bag.now.refs update.now.root) t)) }
+    ensures tree { (t : Tree) → AreOf H.digest_of t (bag_tree update.now.bag.now update.now.root) root.now faces.now → MatchResult result
+        (λ known. (tree_refusal H.digest_of (bag_tree update.now.bag.now update.now.root) t ≡ None)
+        × (known.infos ≡ each_once same_info (map (info_of H.digest_of) (known_of H.digest_of (bag_tree update.now.bag.now update.now.root) t))))
+        (λ fault. (fault ≡ PairFault.Memory) ⊎ (told fault ≡ tree_refusal H.digest_of (bag_tree update.now.bag.now update.now.root) t)) }
 {
     if let Err(fault) = check_root(update, root) {
         return Err(fault);

@@ -1,5 +1,5 @@
 ghost use Rattle.std.specs.Prelude.{◌≡◌, ◌<◌, None, Some, [], ◌∷◌, IfOk, MatchResult};
-ghost use Rattle.cd_cell.specs.Bags.{bag_cell, bag_trees};
+ghost use Rattle.cd_cell.specs.Bags.{bag_tree, bag_trees, IsBag};
 ghost use Rattle.cd_cell.specs.Updates.{half_of};
 ghost use Rattle.cd_update.specs.Nodes.{IsShown};
 ghost use Rattle.cd_update.specs.UpdateFaults.{IsUpdateEntry, fault_of_trees};
@@ -16,18 +16,19 @@ pub struct Update<'a, H: Hash32> {
     pub bag: &'a Bag<H>,
     /// The number of the root.
     pub root: u32,
+    pub ghost is_bag: { IsBag H.digest_of bag.now.cells bag.now.refs bag.now.roots },
     pub ghost is_update: { IsUpdateEntry bag.now.cells root },
 }
 
 impl<'a, H: Hash32> Update<'a, H> {
     /// The update that a bag has.
     pub fn of(bag: &'a Bag<H>) -> Result<Update<'a, H>, UpdateFault>
-        ensures exact { MatchResult result (λ _. fault_of_trees H.digest_of (bag_trees bag.now.cells bag.now.refs bag.now.roots) ≡ None)
-            (λ fault. fault_of_trees H.digest_of (bag_trees bag.now.cells bag.now.refs bag.now.roots) ≡ Some fault) }
+        ensures exact { MatchResult result (λ _. fault_of_trees H.digest_of (bag_trees bag.now) ≡ None)
+            (λ fault. fault_of_trees H.digest_of (bag_trees bag.now) ≡ Some fault) }
         ensures same { IfOk result (λ update. update.bag.now ≡ bag.now) }
-        ensures root { IfOk result (λ update. bag_trees bag.now.cells bag.now.refs bag.now.roots ≡ bag_cell bag.now.cells bag.now.refs update.root ∷ []) }
+        ensures root { IfOk result (λ update. bag_trees bag.now ≡ bag_tree bag.now update.root ∷ []) }
     {
-        let [root] = bag.roots.as_slice() else {
+        let [root] = bag.roots() else {
             return Err(UpdateFault::NotUpdate);
         };
         let face = bag.face(*root);
@@ -46,7 +47,7 @@ impl<'a, H: Hash32> Update<'a, H> {
         requires { place < 2 }
         ensures shown { IsShown H.digest_of self.now.bag.now.cells result }
         ensures depth { result.node.depth ≡ 0 }
-        ensures cell { bag_cell self.now.bag.now.cells self.now.bag.now.refs result.node.entry ≡ half_of (bag_cell self.now.bag.now.cells self.now.bag.now.refs self.now.root) place }
+        ensures cell { bag_tree self.now.bag.now result.node.entry ≡ half_of (bag_tree self.now.bag.now self.now.root) place }
     {
         let children = self.bag.children(self.root);
         Visit {

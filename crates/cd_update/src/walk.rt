@@ -4,7 +4,7 @@ ghost use Rattle.cd_update.specs.EachOnce.{each_once};
 ghost use Rattle.cd_update.specs.Nodes.{same_node, next_nodes, nodes_from, IsShown};
 ghost use Rattle.cd_update.specs.Visits.{spot, nodes_of, visit_at, IsNumbered};
 
-use crate::hidden::{below, is_hidden, shown_info};
+use crate::hidden::{is_hidden, kid_level, shown_info};
 use crate::visit::{Node, Visit};
 use cd_base::Memory;
 use cd_cell::{Bag, Hash32};
@@ -78,7 +78,7 @@ fn push_children<H: Hash32>(
     if is_hidden(face, shown_info(bag, &visit), visit.node.depth) {
         return Ok(());
     }
-    let depth = below(face, visit.node.depth);
+    let depth = kid_level(face, visit.node.depth);
     let children = bag.children(visit.node.entry);
     let mut left = children.len();
     while left > 0 {
@@ -106,7 +106,7 @@ pub(crate) fn visit_all<H: Hash32>(
     ensures shown { IfOk result (λ walk. All (IsShown H.digest_of bag.now.cells) walk.visits.items) }
     ensures wide { IfOk result (λ walk. length walk.numbers.items ≡ 4 * length bag.now.cells) }
 {
-    let mut walk = Walk::start(alloc, bag.cells.as_slice().len())?;
+    let mut walk = Walk::start(alloc, bag.cells().len())?;
     let mut pending = vec![in alloc; start]?;
     while let Some(visit) = pending.pop() {
         if walk.add(visit)? {

@@ -2,7 +2,7 @@ ghost use Rattle.std.specs.Prelude.{◌≡◌, All, IfOk};
 ghost use Rattle.std.specs.List.{flat_map};
 ghost use Rattle.cd_cell.specs.Equality.{same_hash};
 ghost use Rattle.cd_update.specs.EachOnce.{each_once};
-ghost use Rattle.cd_cell.specs.Bags.{bag_cell};
+ghost use Rattle.cd_cell.specs.Bags.{bag_tree};
 ghost use Rattle.cd_update.specs.Nodes.{IsShown};
 ghost use Rattle.cd_update.specs.Visits.{place_of, visited};
 ghost use Rattle.cd_update.specs.Pairing.{visible_hash, wanted_at, wanted_hashes};
@@ -47,7 +47,7 @@ impl<H: Hash32> Update<'_, H> {
     /// The hashes of the cells that the old half shows, in preorder, each once: at Merkle depth `d` a hash at
     /// level `d`. A store has the faces of the old tree under them.
     pub fn wanted(&self, alloc: Global) -> Result<Vec<Hash256>, Memory>
-        ensures { IfOk result (λ hashes. hashes.items ≡ wanted_hashes H.digest_of (bag_cell self.now.bag.now.cells self.now.bag.now.refs self.now.root)) }
+        ensures { IfOk result (λ hashes. hashes.items ≡ wanted_hashes H.digest_of (bag_tree self.now.bag.now self.now.root)) }
     {
         let walk = visit_all(alloc, self.bag, self.half(0))?;
         let hashes = hashes_of(alloc, self.bag, walk.visits.as_slice())?;

@@ -1,7 +1,7 @@
 use Rattle.std.proofs.Common.{length, inr, refl, ap, ◌∙◌}
 use Rattle.std.proofs.lemmas.List.{length-map}
 use Rattle.cd_cell.specs.Levels.{info_of_face}
-use Rattle.cd_boc_read.proofs.ClashLaws.{clash_of-found}
+use Rattle.cd_cell.proofs.ClashLaws.{clash_of-found}
 use Rattle.cd_prepare.proofs.update.new_cells.Goals as goal
 
 pub least_clash-requires-clause-counted : goal.least_clash-requires-clause-counted

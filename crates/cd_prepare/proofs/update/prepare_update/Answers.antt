@@ -4,7 +4,7 @@ use Rattle.cd_cell.specs.declared.info.ChildInfo.{ChildInfo}
 use Rattle.cd_cell.specs.FaceView.{FaceView}
 use Rattle.cd_cell.specs.Infos.{rep_of_info}
 use Rattle.cd_cell.specs.Levels.{info_of_face}
-use Rattle.cd_cell.specs.Bags.{bag_cell}
+use Rattle.cd_cell.specs.Bags.{bag_tree}
 use Rattle.cd_cell.specs.Listings.{IsValid, known_infos, Fits, tree_of}
 use Rattle.cd_cell.specs.Updates.{half_of, found_in, known_of, grafted, new_cells}
 use Rattle.cd_cell.proofs.NewCells.{tree_of-new_cells}
@@ -19,14 +19,14 @@ pub returns-in-Err-clause-exact : goal.returns-in-Err-clause-exact
 returns-in-Err-clause-exact g c t are =
     let update = c.args.update.now in
     let bag = update.bag.now in
-    answer-pair g.H.Hash32.digest_of (bag_cell bag.cells bag.refs update.root) t c.in-Err.fault c.from.result c.from.ensures (c.in-Err.ensures.tree t are)
+    answer-pair g.H.Hash32.digest_of (bag_tree bag update.root) t c.in-Err.fault c.from.result c.from.ensures (c.in-Err.ensures.tree t are)
 
 pub returns-in-Err-graft-clause-exact : goal.returns-in-Err-graft-clause-exact
 returns-in-Err-graft-clause-exact g c t are =
     let H = g.H.Hash32.digest_of in
     let update = c.args.update.now in
     let bag = update.bag.now in
-    let u = bag_cell bag.cells bag.refs update.root in
+    let u = bag_tree bag update.root in
     let paired = c.in-Ok.ensures.tree t are in
     answer-graft H u t paired.0 c.in-Err-graft.fault c.from-in-Err-graft.result c.from-in-Err-graft.ensures (c.in-Err-graft.ensures.tree (known_of H u t) paired.1)
 
@@ -35,7 +35,7 @@ new_cells-requires-clause-good g c κs within =
     let H = g.H.Hash32.digest_of in
     let update = c.args.update.now in
     let bag = update.bag.now in
-    let u = bag_cell bag.cells bag.refs update.root in
+    let u = bag_tree bag update.root in
     good-faces H u (well-update H bag.cells bag.refs bag.roots bag.is_bag update.root update.is_update) (kind-update H bag.cells bag.refs bag.roots bag.is_bag update.root update.is_update) (mask-update H bag.cells bag.refs bag.roots bag.is_bag update.root update.is_update) c.in-Ok.known.infos c.in-Ok.known.old c.in-Ok-graft.ensures.refused c.as_slice.result.now (c.as_slice.ensures ∙ c.in-Ok-graft.ensures.cells)
 
 pub new-requires-after_bounds : goal.new-requires-after_bounds
@@ -43,7 +43,7 @@ new-requires-after_bounds g c κs within =
     let H = g.H.Hash32.digest_of in
     let update = c.args.update.now in
     let bag = update.bag.now in
-    let u = bag_cell bag.cells bag.refs update.root in
+    let u = bag_tree bag update.root in
     let well = well-update H bag.cells bag.refs bag.roots bag.is_bag update.root update.is_update in
     let kind = kind-update H bag.cells bag.refs bag.roots bag.is_bag update.root update.is_update in
     let plain = mask-update H bag.cells bag.refs bag.roots bag.is_bag update.root update.is_update in
@@ -61,7 +61,7 @@ returns-in-Ok-new_cells-clause-rep g c =
     let H = g.H.Hash32.digest_of in
     let update = c.args.update.now in
     let bag = update.bag.now in
-    let u = bag_cell bag.cells bag.refs update.root in
+    let u = bag_tree bag update.root in
     let well = well-update H bag.cells bag.refs bag.roots bag.is_bag update.root update.is_update in
     let kind = kind-update H bag.cells bag.refs bag.roots bag.is_bag update.root update.is_update in
     let plain = mask-update H bag.cells bag.refs bag.roots bag.is_bag update.root update.is_update in
@@ -73,7 +73,7 @@ returns-in-Ok-new_cells-clause-exact g c t are =
     let H = g.H.Hash32.digest_of in
     let update = c.args.update.now in
     let bag = update.bag.now in
-    let u = bag_cell bag.cells bag.refs update.root in
+    let u = bag_tree bag update.root in
     let paired = c.in-Ok.ensures.tree t are in
     let new = c.in-Ok-graft.ensures.tree (known_of H u t) paired.1 in
     answer-none H u t paired.0 new.0 c.as_slice.result.now (c.as_slice.ensures ∙ new.2) c.in-Ok-new_cells.ensures.exact
@@ -83,7 +83,7 @@ returns-clause-exact g c t are =
     let H = g.H.Hash32.digest_of in
     let update = c.args.update.now in
     let bag = update.bag.now in
-    let u = bag_cell bag.cells bag.refs update.root in
+    let u = bag_tree bag update.root in
     let paired = c.in-Ok.ensures.tree t are in
     let new = c.in-Ok-graft.ensures.tree (known_of H u t) paired.1 in
     answer-clash H u t paired.0 new.0 c.as_slice.result.now (c.as_slice.ensures ∙ new.2) c.in-Err-new_cells.fault c.in-Err-new_cells.ensures.exact
@@ -93,7 +93,7 @@ returns-in-Ok-new_cells-clause-applied g c t are =
     let H = g.H.Hash32.digest_of in
     let update = c.args.update.now in
     let bag = update.bag.now in
-    let u = bag_cell bag.cells bag.refs update.root in
+    let u = bag_tree bag update.root in
     let well = well-update H bag.cells bag.refs bag.roots bag.is_bag update.root update.is_update in
     let kind = kind-update H bag.cells bag.refs bag.roots bag.is_bag update.root update.is_update in
     let plain = mask-update H bag.cells bag.refs bag.roots bag.is_bag update.root update.is_update in
@@ -138,7 +138,7 @@ returns-in-Err-clause-told g c =
     let H = g.H.Hash32.digest_of in
     let update = c.args.update.now in
     let bag = update.bag.now in
-    let u = bag_cell bag.cells bag.refs update.root in
+    let u = bag_tree bag update.root in
     told-pair H u c.args.root.now c.args.faces.now c.in-Err.fault c.from.result c.from.ensures c.in-Err.ensures.refused
 
 pub returns-in-Err-graft-clause-told : goal.returns-in-Err-graft-clause-told
@@ -146,7 +146,7 @@ returns-in-Err-graft-clause-told g c =
     let H = g.H.Hash32.digest_of in
     let update = c.args.update.now in
     let bag = update.bag.now in
-    let u = bag_cell bag.cells bag.refs update.root in
+    let u = bag_tree bag update.root in
     told-graft H u c.args.root.now c.args.faces.now c.in-Ok.ensures.refused c.in-Ok.known.infos c.in-Ok.ensures.infos c.in-Err-graft.fault c.from-in-Err-graft.result c.from-in-Err-graft.ensures c.in-Err-graft.ensures.refused
 
 pub returns-in-Ok-new_cells-clause-told : goal.returns-in-Ok-new_cells-clause-told
@@ -154,7 +154,7 @@ returns-in-Ok-new_cells-clause-told g c =
     let H = g.H.Hash32.digest_of in
     let update = c.args.update.now in
     let bag = update.bag.now in
-    let u = bag_cell bag.cells bag.refs update.root in
+    let u = bag_tree bag update.root in
     told-none H u c.args.root.now c.args.faces.now c.in-Ok.ensures.refused c.in-Ok.known.infos c.in-Ok.ensures.infos c.in-Ok-graft.ensures.refused c.as_slice.result.now (c.as_slice.ensures ∙ c.in-Ok-graft.ensures.cells) c.in-Ok-new_cells.ensures.exact
 
 pub returns-clause-told : goal.returns-clause-told
@@ -162,5 +162,5 @@ returns-clause-told g c =
     let H = g.H.Hash32.digest_of in
     let update = c.args.update.now in
     let bag = update.bag.now in
-    let u = bag_cell bag.cells bag.refs update.root in
+    let u = bag_tree bag update.root in
     told-clash H u c.args.root.now c.args.faces.now c.in-Ok.ensures.refused c.in-Ok.known.infos c.in-Ok.ensures.infos c.in-Ok-graft.ensures.refused c.as_slice.result.now (c.as_slice.ensures ∙ c.in-Ok-graft.ensures.cells) c.in-Err-new_cells.fault c.in-Err-new_cells.ensures.exact

@@ -2,7 +2,7 @@
 use Rattle.std.proofs.Common.{◌+◌, ◌^◌, ◌<◌, ap, ap₂, sym, subst, inr, ◌∙◌}
 use Rattle.cd_cell.specs.Equality.{same_face, same_face-Decides}
 use Rattle.cd_cell.specs.Tree.{mask_of}
-use Rattle.cd_cell.specs.Bags.{bag_cell}
+use Rattle.cd_cell.specs.Bags.{bag_tree}
 use Rattle.cd_cell.specs.Updates.{half_of}
 use Rattle.cd_update.specs.EachOnce.{each_once, first_of}
 use Rattle.cd_update.specs.Visits.{visited}
@@ -23,7 +23,7 @@ returns-in-Some-clause-refused g c =
     (sym c.in-Some.is
     ∙ c.unknown.ensures
     ∙ ap (λ vs. first_of (foreign_at H known) (visited bag.cells bag.refs vs)) c.as_slice.ensures.value
-    ∙ first_of-half H bag.cells bag.refs bag.roots bag.is_bag update.root update.is_update 1 c.in-Ok.walk.visits.items c.half-start.result.node c.half-start.ensures.shown.entry c.half-start.ensures.depth c.half-start.ensures.cell c.in-Ok.ensures.nodes (foreign_at H known))
+    ∙ first_of-half H bag.cells bag.refs bag.roots update.is_bag update.root update.is_update 1 c.in-Ok.walk.visits.items c.half-start.result.node c.half-start.ensures.shown.entry c.half-start.ensures.depth c.half-start.ensures.cell c.in-Ok.ensures.nodes (foreign_at H known))
 
 pub returns-in-Some-clause-tree : goal.returns-in-Some-clause-tree
 returns-in-Some-clause-tree g c ts are =
@@ -31,12 +31,12 @@ returns-in-Some-clause-tree g c ts are =
     let update = c.args.update.now in
     let bag = update.bag.now in
     let known = c.args.known.now.infos in
-    let u = bag_cell bag.cells bag.refs update.root in
+    let u = bag_tree bag update.root in
     inr
     (sym c.in-Some.is
     ∙ c.unknown.ensures
     ∙ ap (λ vs. first_of (foreign_at H known) (visited bag.cells bag.refs vs)) c.as_slice.ensures.value
-    ∙ first_of-half H bag.cells bag.refs bag.roots bag.is_bag update.root update.is_update 1 c.in-Ok.walk.visits.items c.half-start.result.node c.half-start.ensures.shown.entry c.half-start.ensures.depth c.half-start.ensures.cell c.in-Ok.ensures.nodes (foreign_at H known)
+    ∙ first_of-half H bag.cells bag.refs bag.roots update.is_bag update.root update.is_update 1 c.in-Ok.walk.visits.items c.half-start.result.node c.half-start.ensures.shown.entry c.half-start.ensures.depth c.half-start.ensures.cell c.in-Ok.ensures.nodes (foreign_at H known)
     ∙ foreign-tree H ts known are (half_of u 1) 0)
 
 pub grafted_of-requires-after_bounds : goal.grafted_of-requires-after_bounds
@@ -46,18 +46,18 @@ grafted_of-requires-after_bounds g c κs within =
     let bag = update.bag.now in
     let known = c.args.known.now.infos in
     let n = c.half-start.result.node in
-    let u = bag_cell bag.cells bag.refs update.root in
-    let low = mask-new H u (well-update H bag.cells bag.refs bag.roots bag.is_bag update.root update.is_update) (kind-update H bag.cells bag.refs bag.roots bag.is_bag update.root update.is_update) (mask-update H bag.cells bag.refs bag.roots bag.is_bag update.root update.is_update) in
+    let u = bag_tree bag update.root in
+    let low = mask-new H u (well-update H bag.cells bag.refs bag.roots update.is_bag update.root update.is_update) (kind-update H bag.cells bag.refs bag.roots update.is_bag update.root update.is_update) (mask-update H bag.cells bag.refs bag.roots update.is_bag update.root update.is_update) in
     record {
       shown = c.in-Ok.ensures.shown;
       first = c.half-start.ensures.shown;
       nodes = c.in-Ok.ensures.nodes;
       wide = c.in-Ok.ensures.wide;
       low =
-          subst (λ d. mask_of H (bag_cell bag.cells bag.refs n.entry) < 2 ^ (d + 1)) (sym c.half-start.ensures.depth)
+          subst (λ d. mask_of H (bag_tree bag n.entry) < 2 ^ (d + 1)) (sym c.half-start.ensures.depth)
           (subst (λ t. mask_of H t < 2) (sym c.half-start.ensures.cell) low);
       found =
-          sym (first_of-visited H bag.cells bag.refs bag.roots bag.is_bag c.in-Ok.walk.visits.items n c.half-start.ensures.shown.entry c.in-Ok.ensures.nodes (foreign_at H known))
+          sym (first_of-visited H bag.cells bag.refs bag.roots update.is_bag c.in-Ok.walk.visits.items n c.half-start.ensures.shown.entry c.in-Ok.ensures.nodes (foreign_at H known))
           ∙ ap (λ vs. first_of (foreign_at H known) (visited bag.cells bag.refs vs)) (sym c.as_slice.ensures.value)
           ∙ sym c.unknown.ensures
           ∙ c.in_default-unknown.is;
@@ -70,7 +70,7 @@ returns-in-Ok-grafted_of-clause-refused g c =
     let update = c.args.update.now in
     let bag = update.bag.now in
     let known = c.args.known.now.infos in
-    sym (first_of-half H bag.cells bag.refs bag.roots bag.is_bag update.root update.is_update 1 c.in-Ok.walk.visits.items c.half-start.result.node c.half-start.ensures.shown.entry c.half-start.ensures.depth c.half-start.ensures.cell c.in-Ok.ensures.nodes (foreign_at H known))
+    sym (first_of-half H bag.cells bag.refs bag.roots update.is_bag update.root update.is_update 1 c.in-Ok.walk.visits.items c.half-start.result.node c.half-start.ensures.shown.entry c.half-start.ensures.depth c.half-start.ensures.cell c.in-Ok.ensures.nodes (foreign_at H known))
     ∙ ap (λ vs. first_of (foreign_at H known) (visited bag.cells bag.refs vs)) (sym c.as_slice.ensures.value)
     ∙ sym c.unknown.ensures
     ∙ c.in_default-unknown.is
@@ -81,7 +81,7 @@ returns-in-Ok-grafted_of-clause-cells g c =
     let update = c.args.update.now in
     let bag = update.bag.now in
     c.in-Ok-grafted_of.ensures.cells
-    ∙ each_once-half H bag.cells bag.refs bag.roots bag.is_bag update.root update.is_update 1 c.in-Ok.walk.visits.items c.half-start.result.node c.half-start.ensures.shown.entry c.half-start.ensures.depth c.half-start.ensures.cell c.in-Ok.ensures.nodes same_face same_face-Decides (own_face_at H c.args.known.now.infos)
+    ∙ each_once-half H bag.cells bag.refs bag.roots update.is_bag update.root update.is_update 1 c.in-Ok.walk.visits.items c.half-start.result.node c.half-start.ensures.shown.entry c.half-start.ensures.depth c.half-start.ensures.cell c.in-Ok.ensures.nodes same_face same_face-Decides (own_face_at H c.args.known.now.infos)
 
 pub returns-in-Ok-grafted_of-clause-tree : goal.returns-in-Ok-grafted_of-clause-tree
 returns-in-Ok-grafted_of-clause-tree g c ts are =
@@ -89,7 +89,7 @@ returns-in-Ok-grafted_of-clause-tree g c ts are =
     let update = c.args.update.now in
     let bag = update.bag.now in
     let known = c.args.known.now.infos in
-    let half = half_of (bag_cell bag.cells bag.refs update.root) 1 in (
+    let half = half_of (bag_tree bag update.root) 1 in (
       sym (foreign-tree H ts known are half 0) ∙ returns-in-Ok-grafted_of-clause-refused g c,
       c.in-Ok-grafted_of.ensures.root ∙ ap₂ (grafted_info H known) c.half-start.ensures.cell c.half-start.ensures.depth ∙ info-tree H ts known are half 0,
       returns-in-Ok-grafted_of-clause-cells g c ∙ ap (each_once same_face) (own-tree H ts known are half 0),

@@ -6,4 +6,4 @@ pub info_at-root-requires-clause-visited : goal.info_at-root-requires-clause-vis
 info_at-root-requires-clause-visited g c =
     let bag = c.args.bag.now in
     let walk = c.args.walk.now in
-    start-visited g.H.Hash32.digest_of c.args.known.now.infos bag.cells bag.refs bag.roots bag.is_bag c.args.start.now walk.visits.items walk.numbers.items c.requires
+    start-visited g.H.Hash32.digest_of c.args.known.now.infos bag.cells bag.refs bag.roots c.requires.kept c.args.start.now walk.visits.items walk.numbers.items c.requires.grafting

@@ -2,7 +2,7 @@
 use Rattle.std.proofs.Common.{ap, sym, subst, ◌∙◌}
 use Rattle.cd_cell.specs.Levels.{info_of_face}
 use Rattle.cd_cell.specs.Fit.{IsFaceFit}
-use Rattle.cd_cell.specs.Bags.{bag_cell}
+use Rattle.cd_cell.specs.Bags.{bag_tree}
 use Rattle.cd_cell.specs.Updates.{is_hidden}
 use Rattle.cd_cell.proofs.Subtrees.{info_of-face_of}
 use Rattle.cd_update.specs.Pairing.{upto}
@@ -19,14 +19,14 @@ returns-then-is_hidden g c =
     let hidden = ap (is_hidden v.node.depth) c.face-shown.ensures.cell ∙ sym c.is_hidden.ensures ∙ c.if-is_hidden.true in
     c.info_upto.ensures
     ∙ ap (upto v.node.depth) c.shown_info-info.ensures.info
-    ∙ sym (info-hidden H c.args.known.now.infos bag.cells bag.refs bag.roots bag.is_bag c.args.start.now walk.visits.items walk.numbers.items c.requires.grafting v c.requires.visited hidden)
+    ∙ sym (info-hidden H c.args.known.now.infos bag.cells bag.refs bag.roots c.shown_info-info.ensures.kept c.args.start.now walk.visits.items walk.numbers.items c.requires.grafting v c.requires.visited hidden)
 
 pub returns-then-is_unchanged : goal.returns-then-is_unchanged
 returns-then-is_unchanged g c =
     let H = g.H.Hash32.digest_of in
     let bag = c.args.bag.now in
     let n = c.args.visit.now.node in
-    let t = bag_cell bag.cells bag.refs n.entry in
+    let t = bag_tree bag n.entry in
     let shown = ap (is_hidden n.depth) c.face-shown.ensures.cell ∙ sym c.is_hidden.ensures ∙ c.if-is_hidden.false in
     let same = c.is_unchanged.ensures.0 c.if-is_unchanged.true in
     c.shown_info-info.ensures.info
@@ -40,9 +40,9 @@ face_info-requires-after_bounds g c κs within =
     let bag = c.args.bag.now in
     let walk = c.args.walk.now in
     let v = c.args.visit.now in
-    let t = bag_cell bag.cells bag.refs v.node.entry in
+    let t = bag_tree bag v.node.entry in
     let shown = ap (is_hidden v.node.depth) c.face-shown.ensures.cell ∙ sym c.is_hidden.ensures ∙ c.if-is_hidden.false in
-    let ready = visit-ready H c.args.known.now.infos bag.cells bag.refs bag.roots bag.is_bag c.args.start.now walk.visits.items walk.numbers.items c.requires.grafting v c.requires.visited in
+    let ready = visit-ready H c.args.known.now.infos bag.cells bag.refs bag.roots c.shown_info-info.ensures.kept c.args.start.now walk.visits.items walk.numbers.items c.requires.grafting v c.requires.visited in
     subst IsFaceFit (sym c.new_face.ensures) (face-good H c.args.known.now.infos c.requires.grafting.old t v.node.depth ready shown).good.fit
 
 pub returns : goal.returns
@@ -50,6 +50,6 @@ returns g c =
     let H = g.H.Hash32.digest_of in
     let bag = c.args.bag.now in
     let n = c.args.visit.now.node in
-    let t = bag_cell bag.cells bag.refs n.entry in
+    let t = bag_tree bag n.entry in
     let shown = ap (is_hidden n.depth) c.face-shown.ensures.cell ∙ sym c.is_hidden.ensures ∙ c.if-is_hidden.false in
     c.face_info.ensures.face ∙ ap (info_of_face H) c.new_face.ensures ∙ sym (info-visible H c.args.known.now.infos c.requires.grafting.old t n.depth shown)

@@ -3,7 +3,7 @@ use Rattle.std.proofs.Common.{◌≡◌, ◌<◌, ◌-◌, ◌+◌, length, get_
 use Rattle.std.proofs.lemmas.List.{get_or_default}
 use Rattle.cd_update.specs.Visits.{spot, visit_at, no_visit}
 use Rattle.cd_update.specs.Grafts.{AreGrafted, grafted_info}
-use Rattle.cd_cell.specs.Bags.{bag_cell}
+use Rattle.cd_cell.specs.Bags.{bag_tree}
 use Rattle.cd_update.proofs.GraftVisits.{grafted-start, grafted-skip, grafted-more}
 use Rattle.cd_update.proofs.grafting.new_infos.Goals as goal
 
@@ -14,7 +14,7 @@ loop-left-init g c =
     let count = c.in_ok-infos.ensures.len in
     record {
       grafted =
-          grafted-start g.H.Hash32.digest_of c.args.known.now.infos bag.cells bag.refs bag.roots bag.is_bag c.args.start.now walk.visits.items walk.numbers.items c.requires c.in_ok-infos.infos.items c.len-left.result
+          grafted-start g.H.Hash32.digest_of c.args.known.now.infos bag.cells bag.refs bag.roots c.shown_info.ensures.kept c.args.start.now walk.visits.items walk.numbers.items c.requires c.in_ok-infos.infos.items c.len-left.result
           (omega (arith, count, c.len.ensures, c.in_ok-infos.infos.ok, walk.visits.ok))
           (omega (arith, c.len-left.ensures, walk.numbers.ok));
       low = omega (arith, c.len-left.ensures, walk.numbers.ok);
@@ -71,10 +71,10 @@ loop-left-preserved-in-Some g c =
     let next : c.loop-left.left ≡ left + 1 = omega arith in
     record {
       grafted =
-          grafted-more H known bag.cells bag.refs bag.roots bag.is_bag c.args.start.now walk.visits.items walk.numbers.items c.requires c.loop-left.infos.items left walk.numbered
+          grafted-more H known bag.cells bag.refs bag.roots c.shown_info.ensures.kept c.args.start.now walk.visits.items walk.numbers.items c.requires c.loop-left.infos.items left walk.numbered
           (subst (λ from. AreGrafted H known bag.cells bag.refs walk.visits.items from c.loop-left.infos.items) next c.loop-left.invariant.grafted)
           c.in-Some.number c.new_info-info.result some
-          (c.new_info-info.ensures ∙ ap (λ v. grafted_info H known (bag_cell bag.cells bag.refs v.node.entry) v.node.depth) read);
+          (c.new_info-info.ensures ∙ ap (λ v. grafted_info H known (bag_tree bag v.node.entry) v.node.depth) read);
       low = omega (arith, c.loop-left.invariant.low);
     }
 
@@ -90,7 +90,7 @@ loop-left-preserved g c =
     let next : c.loop-left.left ≡ left + 1 = omega arith in
     record {
       grafted =
-          grafted-skip H known bag.cells bag.refs bag.roots bag.is_bag c.args.start.now walk.visits.items walk.numbers.items c.requires c.loop-left.infos.items left walk.numbered
+          grafted-skip H known bag.cells bag.refs bag.roots c.shown_info.ensures.kept c.args.start.now walk.visits.items walk.numbers.items c.requires c.loop-left.infos.items left walk.numbered
           (subst (λ from. AreGrafted H known bag.cells bag.refs walk.visits.items from c.loop-left.infos.items) next c.loop-left.invariant.grafted) none;
       low = omega (arith, c.loop-left.invariant.low);
     }

@@ -5,7 +5,7 @@ use Rattle.std.proofs.lemmas.List.{get_or_default}
 use Rattle.cd_cell.specs.CellFaults.{no_info}
 use Rattle.cd_cell.specs.Equality.{same_face}
 use Rattle.cd_cell.specs.Levels.{info_of_face}
-use Rattle.cd_cell.specs.Bags.{bag_cell}
+use Rattle.cd_cell.specs.Bags.{bag_tree}
 use Rattle.cd_cell.specs.Updates.{is_hidden}
 use Rattle.cd_update.specs.EachOnce.{with_new, each_once}
 use Rattle.cd_update.specs.Visits.{spot, visit_at, place_of, visited, no_visit}
@@ -26,7 +26,7 @@ loop-number-preserved-then-is_hidden g c =
     let read : c.index-visit.result.now ≡ visit_at visits i = c.index-visit.ensures ∙ get_or_default visits i c.index-visit.result.now no_visit in' in
     let n = c.index-visit.result.now.node in
     let hidden = ap (is_hidden n.depth) c.face-shown.ensures.cell ∙ sym c.is_hidden.ensures ∙ c.if-is_hidden.true in
-    let none = ap (λ v. own_face_at H known (place_of bag.cells bag.refs v.node)) (sym read) ∙ ap (λ b. if b then [] else grafted_face H known (bag_cell bag.cells bag.refs n.entry) n.depth ∷ []) hidden in
+    let none = ap (λ v. own_face_at H known (place_of bag.cells bag.refs v.node)) (sym read) ∙ ap (λ b. if b then [] else grafted_face H known (bag_tree bag n.entry) n.depth ∷ []) hidden in
     record {
       cells =
           c.loop-number.invariant.cells
@@ -51,12 +51,12 @@ add-requires-clause-info g c κs within =
     let in-infos : i < length infos = omega (arith, c.requires.grafted.counted) in
     let read : c.index-visit.result.now ≡ visit_at visits i = c.index-visit.ensures ∙ get_or_default visits i c.index-visit.result.now no_visit in' in
     let n = c.index-visit.result.now.node in
-    let t = bag_cell bag.cells bag.refs n.entry in
+    let t = bag_tree bag n.entry in
     let shown = ap (is_hidden n.depth) c.face-shown.ensures.cell ∙ sym c.is_hidden.ensures ∙ c.if-is_hidden.false in
     c.index-infos-number.is
     ∙ get_or_default infos i c.index-infos-number.result no_info in-infos
     ∙ c.requires.grafted.done i in' (omega arith)
-    ∙ ap (λ v. grafted_info H known (bag_cell bag.cells bag.refs v.node.entry) v.node.depth) (sym read)
+    ∙ ap (λ v. grafted_info H known (bag_tree bag v.node.entry) v.node.depth) (sym read)
     ∙ info-visible H known c.args.known.now.old t n.depth shown
     ∙ ap (info_of_face H) (sym c.new_face-face.ensures)
 
@@ -71,7 +71,7 @@ loop-number-preserved g c =
     let read : c.index-visit.result.now ≡ visit_at visits i = c.index-visit.ensures ∙ get_or_default visits i c.index-visit.result.now no_visit in' in
     let n = c.index-visit.result.now.node in
     let shown = ap (is_hidden n.depth) c.face-shown.ensures.cell ∙ sym c.is_hidden.ensures ∙ c.if-is_hidden.false in
-    let one = ap (λ v. own_face_at H known (place_of bag.cells bag.refs v.node)) (sym read) ∙ ap (λ b. if b then [] else grafted_face H known (bag_cell bag.cells bag.refs n.entry) n.depth ∷ []) shown in
+    let one = ap (λ v. own_face_at H known (place_of bag.cells bag.refs v.node)) (sym read) ∙ ap (λ b. if b then [] else grafted_face H known (bag_tree bag n.entry) n.depth ∷ []) shown in
     record {
       cells =
           c.in_ok-add.ensures.cells

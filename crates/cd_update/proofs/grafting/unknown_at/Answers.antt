@@ -3,7 +3,7 @@ use Rattle.std.proofs.Common.{ap, ap₂, sym, ◌∙◌, Some}
 use Rattle.std.specs.List.{list_any}
 use Rattle.cd_cell.specs.Equality.{same_info}
 use Rattle.cd_cell.specs.Infos.{info_hash}
-use Rattle.cd_cell.specs.Bags.{bag_cell}
+use Rattle.cd_cell.specs.Bags.{bag_tree}
 use Rattle.cd_cell.specs.Updates.{is_hidden}
 use Rattle.cd_update.specs.Visits.{place_of}
 use Rattle.cd_update.specs.Pairing.{upto}
@@ -16,7 +16,7 @@ returns-then-has g c =
     let bag = c.args.bag.now in
     let known = c.args.known.now in
     let n = c.args.visit.now.node in
-    let t = bag_cell bag.cells bag.refs n.entry in
+    let t = bag_tree bag n.entry in
     let hidden = ap (is_hidden n.depth) c.face.ensures.cell ∙ sym c.is_hidden.ensures ∙ c.if-not-is_hidden.false in
     let shown = c.info_upto.ensures ∙ ap (upto n.depth) c.shown_info-info.ensures.info in
     sym
@@ -29,7 +29,7 @@ returns g c =
     let bag = c.args.bag.now in
     let known = c.args.known.now in
     let n = c.args.visit.now.node in
-    let t = bag_cell bag.cells bag.refs n.entry in
+    let t = bag_tree bag n.entry in
     let hidden = ap (is_hidden n.depth) c.face.ensures.cell ∙ sym c.is_hidden.ensures ∙ c.if-not-is_hidden.false in
     let shown = c.info_upto.ensures ∙ ap (upto n.depth) c.shown_info-info.ensures.info in
     ap Some (c.hash_at.ensures ∙ ap (λ k. info_hash k n.depth) c.shown_info-info.ensures.info)

@@ -13,4 +13,4 @@ returns-clause-info g c =
     ∙ ap (λ ks. get_or ks place c.index-kids-visit.result) (c.kids.ensures.value ∙ ap (λ f. f.kids) c.face.ensures.face)
     ∙ get_or_default _ place c.index-kids-visit.result no_info c.requires.place
     ∙ c.requires.shown
-    ∙ sym (info_of-bag g.H.Hash32.digest_of bag.cells bag.refs bag.roots bag.is_bag c.args.visit.now.node.entry)
+    ∙ sym (info_of-bag g.H.Hash32.digest_of bag.cells bag.refs bag.roots c.face.ensures.kept c.args.visit.now.node.entry)

@@ -2,7 +2,7 @@
 use Rattle.std.proofs.Common.{◌≡◌, ◌<◌, length, All, sym, ap, subst, ◌∙◌, arith}
 use Rattle.cd_cell.specs.Equality.{same_info}
 use Rattle.cd_cell.specs.Tree.{info_of}
-use Rattle.cd_cell.specs.Bags.{bag_cell}
+use Rattle.cd_cell.specs.Bags.{bag_tree}
 use Rattle.cd_cell.proofs.BagLaws.{well_formed-bag}
 use Rattle.cd_update.specs.EachOnce.{with_new}
 use Rattle.cd_update.specs.Visits.{visit_at, no_visit}
@@ -19,7 +19,7 @@ loop-visit-preserved g c =
     let visits = c.args.visits.now in
     let i = c.loop-visit.visit-index in
     let v = visit_at visits i in
-    let t = bag_cell bag.cells bag.refs v.node.entry in
+    let t = bag_tree bag v.node.entry in
     let in' : i < length visits = omega arith in
     let shown = c.requires i no_visit in' in
     let info : c.info_upto.result ≡ upto v.node.depth (info_of H t) = c.info_upto.ensures ∙ ap (upto v.node.depth) c.shown_info.ensures.info in
@@ -29,5 +29,5 @@ loop-visit-preserved g c =
       old =
           subst (All IsOldInfo) (sym grown)
           (All-with_new IsOldInfo same_info c.loop-visit.infos.all.items (upto v.node.depth (info_of H t)) c.loop-visit.invariant.old
-          (IsOldInfo-of H t v.node.depth shown.depth (well_formed-bag H bag.cells bag.refs bag.roots bag.is_bag v.node.entry shown.entry)));
+          (IsOldInfo-of H t v.node.depth shown.depth (well_formed-bag H bag.cells bag.refs bag.roots c.shown_info.ensures.kept v.node.entry shown.entry)));
     }

@@ -8,21 +8,21 @@ use Rattle.cd_cell.proofs.bag.Bag.face.Goals as goal
 
 pub returns-clause-good : goal.returns-clause-good
 returns-clause-good g c =
-    let face = c.index-as_slice-number.result in
+    let face = c.index-cells-number.result in
     let read : face ≡ face_at c.args.self.now.cells c.args.number =
-    c.index-as_slice-number.is
-    ∙ ap (λ fs. get_or fs c.args.number face) c.as_slice.ensures
+    c.index-cells-number.is
+    ∙ ap (λ fs. get_or fs c.args.number face) c.cells-cells.ensures.value
     ∙ get_or_default c.args.self.now.cells c.args.number face no_face c.requires
     in
-    subst IsGoodFace (sym read) (c.args.self.now.is_bag.good c.args.number c.requires)
+    subst IsGoodFace (sym read) (c.cells-cells.ensures.kept.good c.args.number c.requires)
 
 pub returns-clause-cell : goal.returns-clause-cell
 returns-clause-cell g c =
-    let face = c.index-as_slice-number.result in
+    let face = c.index-cells-number.result in
     let read : face ≡ face_at c.args.self.now.cells c.args.number =
-    c.index-as_slice-number.is
-    ∙ ap (λ fs. get_or fs c.args.number face) c.as_slice.ensures
+    c.index-cells-number.is
+    ∙ ap (λ fs. get_or fs c.args.number face) c.cells-cells.ensures.value
     ∙ get_or_default c.args.self.now.cells c.args.number face no_face c.requires
     in
     let bag = c.args.self.now in
-    face_of-bag g.H.Hash32.digest_of bag.cells bag.refs bag.roots bag.is_bag c.args.number ∙ sym read
+    face_of-bag g.H.Hash32.digest_of bag.cells bag.refs bag.roots c.cells-cells.ensures.kept c.args.number ∙ sym read

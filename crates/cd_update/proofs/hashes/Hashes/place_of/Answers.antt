@@ -3,7 +3,7 @@ use Rattle.std.proofs.Common.{◌≡◌, ◌-◌, ◌∷◌, [], length, take, v
 use Rattle.std.proofs.lemmas.List.{get_or_default, take_at}
 use Rattle.cd_cell.specs.Infos.{no_hash}
 use Rattle.cd_cell.specs.Equality.{same_hash, same_hash-Decides}
-use Rattle.cd_update.specs.Indexes.{IsIndex}
+use Rattle.cd_cell.specs.Indexes.{IsIndex}
 use Rattle.cd_update.proofs.EachOnceLaws.{with_new-there}
 use Rattle.cd_update.proofs.hashes.Hashes.place_of.Goals as goal
 

@@ -2,7 +2,7 @@
 use Rattle.std.proofs.Common.{◌≡◌, ◌-◌, ◌∷◌, [], length, take, map, vec_len, ◌∙◌, sym, ap, subst, arith}
 use Rattle.std.proofs.lemmas.List.{take_at}
 use Rattle.cd_cell.specs.Infos.{rep_of_info}
-use Rattle.cd_update.specs.Indexes.{IsIndex}
+use Rattle.cd_cell.specs.Indexes.{IsIndex}
 use Rattle.cd_update.proofs.known.Infos.add.Goals as goal
 
 pub invariant_of-self-in-Err : goal.invariant_of-self-in-Err

@@ -7,7 +7,7 @@ use Rattle.cd_base.specs.declared.hash.Hash256.{Hash256}
 use Rattle.cd_cell.specs.Export.{hash_cmp}
 use Rattle.cd_cell.proofs.ExportOrder.{hash_cmp-ties, hash_cmp-total}
 use Rattle.cd_cell.proofs.Subtrees.{Contains-first, Contains-later, Contains-cases, Contains-nil}
-use Rattle.cd_boc_read.specs.CellFaults.{lesser, least_hash}
+use Rattle.cd_cell.specs.Clashes.{lesser, least_hash}
 
 -- the second hash isn't above the first
 abbrev pub IsUpTo : Hash256 → Hash256 → Type 0

@@ -3,7 +3,7 @@ ghost use Rattle.std.specs.List.{list_any};
 ghost use Rattle.cd_base.specs.declared.hash.Hash256.{Hash256};
 ghost use Rattle.cd_cell.specs.Infos.{no_hash};
 ghost use Rattle.cd_cell.specs.Equality.{same_hash};
-ghost use Rattle.cd_update.specs.Indexes.{IsIndex};
+ghost use Rattle.cd_cell.specs.Indexes.{IsIndex};
 
 use cd_base::{Hash256, Memory};
 use std::alloc::Global;

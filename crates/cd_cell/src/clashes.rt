@@ -4,11 +4,11 @@ ghost use Rattle.std.specs.Ordering.{nat_cmp, ordering_then};
 ghost use Rattle.cd_cell.specs.Infos.{rep_of_info};
 ghost use Rattle.cd_cell.specs.Export.{hash_cmp};
 ghost use Rattle.cd_cell.specs.Bags.{face_at};
-ghost use Rattle.cd_boc_read.specs.CellFaults.{clash_among};
-ghost use Rattle.cd_boc_read.specs.Clashes.{AllAgree, IsFirstClash, keys_from, Agree};
+ghost use Rattle.cd_cell.specs.Clashes.{clash_among};
+ghost use Rattle.cd_cell.specs.ClashSearch.{AllAgree, IsFirstClash, numbered_from, Agree};
 
 use cd_base::{Hash256, Memory};
-use cd_cell::{ChildInfo, Face};
+use crate::{ChildInfo, Face};
 use std::alloc::Global;
 
 /// The least representation hash that `infos` give for two different faces. It sorts the hashes, each with its cell's
@@ -30,7 +30,7 @@ pub fn least_clash(
 /// The representation hash of each cell, with its number.
 fn keys_of(alloc: Global, infos: &[ChildInfo]) -> Result<Vec<(Hash256, u32)>, Memory>
     requires { length infos.now < 2 ^ 32 }
-    ensures { IfOk result (λ keys. keys.items ≡ keys_from rep_of_info 0 infos.now) }
+    ensures { IfOk result (λ keys. keys.items ≡ numbered_from rep_of_info 0 infos.now) }
 {
     let mut keys = Vec::with_capacity(alloc, infos.len())?;
     for (number, info) in infos.iter().enumerate() {

@@ -1,8 +1,8 @@
 use Rattle.std.proofs.Common.{sym, ◌∙◌}
 use Rattle.std.proofs.lemmas.Bool.{true≢false, not-true, not-false}
 use Rattle.cd_cell.specs.Equality.{same_hash-Decides, same_face, same_face-Decides}
-use Rattle.cd_boc_read.proofs.ClashLaws.{face_read}
-use Rattle.cd_boc_read.proofs.clashes.clash.Goals as goal
+use Rattle.cd_cell.proofs.ClashLaws.{face_read}
+use Rattle.cd_cell.proofs.clashes.clash.Goals as goal
 
 pub returns-then-eq-clause-agree : goal.returns-then-eq-clause-agree
 returns-then-eq-clause-agree c = λ e reps.

@@ -16,79 +16,36 @@ use Rattle.cd_cell.specs.CellFaults.{no_info}
 use Rattle.cd_cell.specs.Equality.{same_hash, same_face, same_hash-Decides, same_face-Decides}
 use Rattle.cd_cell.specs.Bags.{no_face, face_at}
 use Rattle.cd_cell.proofs.Subtrees.{Contains-first, Contains-later, Contains-cases, Contains-nil, Contains-map, Contains-mapped}
-use Rattle.cd_boc_read.specs.CellFaults.{least_hash, HashedFace, is_clash, clash_among, with_rep, clash_of}
-use Rattle.cd_boc_read.specs.Clashes.{Key, keys_from, Agree, AllAgree, no_key, key_at, IsFirstClash}
-use Rattle.cd_boc_read.proofs.LeastHashes.{IsUpTo, IsUpTo-both, least_hash-is}
-use Rattle.cd_boc_read.proofs.HashKeys.{keys_from-at, length-keys_from, key_cmp, hashes-sorted}
+use Rattle.cd_cell.specs.Clashes.{least_hash, HashedFace, is_clash, clash_among, with_rep, clash_of}
+use Rattle.cd_cell.specs.ClashSearch.{NumberedHash, numbered_from, Agree, AllAgree, no_numbered, numbered_at, IsFirstClash}
+use Rattle.cd_cell.proofs.ListTests.{Contains-filter, filter-Contains, list_any-Contains, Contains-list_any, none-left}
+use Rattle.cd_cell.proofs.LeastHashes.{IsUpTo, IsUpTo-both, least_hash-is}
+use Rattle.cd_cell.proofs.NumberedHashes.{numbered_from-at, length-numbered_from, numbered_cmp, hashes-sorted}
 
 -- ---- keys
 
-module _ (faces : List FaceView) (keys : List Key) (sorted : IsSorted key_cmp keys) where
+module _ (faces : List FaceView) (keys : List NumberedHash) (sorted : IsSorted numbered_cmp keys) where
   -- neighbours that agree make all keys of one hash agree
-  agree-far : (high : ℕ) → high ≤ length keys → AllAgree faces keys high → (m i j : ℕ) → i + m ≡ j → j < high → (key_at keys i).0 ≡ (key_at keys j).0 → face_at faces (key_at keys i).1 ≡ face_at faces (key_at keys j).1
-  agree-far high within all zero i j at in' same = ap (λ p. face_at faces (key_at keys p).1) (let one : i ≡ j = omega arith in one)
+  agree-far : (high : ℕ) → high ≤ length keys → AllAgree faces keys high → (m i j : ℕ) → i + m ≡ j → j < high → (numbered_at keys i).0 ≡ (numbered_at keys j).0 → face_at faces (numbered_at keys i).1 ≡ face_at faces (numbered_at keys j).1
+  agree-far high within all zero i j at in' same = ap (λ p. face_at faces (numbered_at keys p).1) (let one : i ≡ j = omega arith in one)
   agree-far high within all (suc m) i j at in' same =
       let p : ℕ = i + m in
       let next : p + 1 ≡ j = omega arith in
-      let low = hashes-sorted keys sorted i p no_key (omega arith) (omega arith) in
-      let up = hashes-sorted keys sorted p j no_key (omega arith) (omega arith) in
-      let middle : (key_at keys i).0 ≡ (key_at keys p).0 = IsUpTo-both (key_at keys i).0 (key_at keys p).0 (subst (λ h. IsUpTo h (key_at keys p).0) (sym same) up) low in
+      let low = hashes-sorted keys sorted i p no_numbered (omega arith) (omega arith) in
+      let up = hashes-sorted keys sorted p j no_numbered (omega arith) (omega arith) in
+      let middle : (numbered_at keys i).0 ≡ (numbered_at keys p).0 = IsUpTo-both (numbered_at keys i).0 (numbered_at keys p).0 (subst (λ h. IsUpTo h (numbered_at keys p).0) (sym same) up) low in
       let here = agree-far high within all m i p refl (omega arith) middle in
-      let step = all p no_key (omega arith) in
-      here ∙ step (sym middle ∙ same ∙ ap (λ q. (key_at keys q).0) (sym next)) ∙ ap (λ q. face_at faces (key_at keys q).1) next
+      let step = all p no_numbered (omega arith) in
+      here ∙ step (sym middle ∙ same ∙ ap (λ q. (numbered_at keys q).0) (sym next)) ∙ ap (λ q. face_at faces (numbered_at keys q).1) next
 
-  pub agree-both : (high : ℕ) → high ≤ length keys → AllAgree faces keys high → (i j : ℕ) → i < high → j < high → (key_at keys i).0 ≡ (key_at keys j).0 → face_at faces (key_at keys i).1 ≡ face_at faces (key_at keys j).1
+  pub agree-both : (high : ℕ) → high ≤ length keys → AllAgree faces keys high → (i j : ℕ) → i < high → j < high → (numbered_at keys i).0 ≡ (numbered_at keys j).0 → face_at faces (numbered_at keys i).1 ≡ face_at faces (numbered_at keys j).1
   agree-both high within all i j in-i in-j same =
       ⊎_elim
       (λ later. sym (agree-far high within all (i - j) j i (omega arith) in-i (sym same)))
       (λ before. agree-far high within all (j - i) i j (omega arith) in-j same)
       (cases_lt j i)
 
--- ---- lists that are filtered
-
-pub Contains-filter : {A : Type 0} (p : A → Bool) (xs : List A) (x : A) → Contains xs x → p x ≡ true → Contains (filter p xs) x
-Contains-filter p [] x h pass = absurd (Contains-nil x h)
-Contains-filter p (y ∷ ys) x h pass =
-    ⊎_elim
-    (λ same.
-    let first : p y ≡ true = ap p same ∙ pass in
-    subst (λ b. Contains (if b then y ∷ filter p ys else filter p ys) x) (sym first) (subst (Contains (y ∷ filter p ys)) same (Contains-first y (filter p ys))))
-    (λ later.
-    let rest = Contains-filter p ys x later pass in
-    elim (p y) as (λ b. Contains (if b then y ∷ filter p ys else filter p ys) x) [ true ↦ Contains-later y (filter p ys) x rest | false ↦ rest ])
-    (Contains-cases y ys x h)
-
-filter-head : {A : Type 0} (b : Bool) (p : A → Bool) (y : A) (zs : List A) (x : A) → Contains (if b then y ∷ zs else zs) x → ((y ≡ x) × (b ≡ true)) ⊎ Contains zs x
-filter-head true p y zs x h = ⊎_elim (λ same. inl (same, refl)) inr (Contains-cases y zs x h)
-filter-head false p y zs x h = inr h
-
-pub filter-Contains : {A : Type 0} (p : A → Bool) (xs : List A) (x : A) → Contains (filter p xs) x → Contains xs x × (p x ≡ true)
-filter-Contains p [] x h = absurd (Contains-nil x h)
-filter-Contains p (y ∷ ys) x h =
-    ⊎_elim
-    (λ here. (subst (Contains (y ∷ ys)) here.0 (Contains-first y ys), ap p (sym here.0) ∙ here.1))
-    (λ later. let found = filter-Contains p ys x later in (Contains-later y ys x found.0, found.1))
-    (filter-head (p y) p y (filter p ys) x h)
-
-pub list_any-Contains : {A : Type 0} (p : A → Bool) (xs : List A) → list_any p xs ≡ true → (x : A) × Contains xs x × (p x ≡ true)
-list_any-Contains p [] h = absurd (true≢false (sym h))
-list_any-Contains p (y ∷ ys) h =
-    ⊎_elim
-    (λ here. (y, Contains-first y ys, here))
-    (λ later. let found = list_any-Contains p ys later in (found.0, Contains-later y ys found.0 found.1, found.2))
-    (or_cases (p y) (list_any p ys) h)
-
-pub Contains-list_any : {A : Type 0} (p : A → Bool) (xs : List A) (x : A) → Contains xs x → p x ≡ true → list_any p xs ≡ true
-Contains-list_any p [] x h pass = absurd (Contains-nil x h)
-Contains-list_any p (y ∷ ys) x h pass =
-    ⊎_elim
-    (λ same. or_left (p y) (list_any p ys) (ap p same ∙ pass))
-    (λ later. or_right (p y) (list_any p ys) (Contains-list_any p ys x later pass))
-    (Contains-cases y ys x h)
-
-none-left : {A : Type 0} (xs : List A) → ((x : A) → Contains xs x → ⊥) → xs ≡ []
-none-left [] none = refl
-none-left (x ∷ xs) none = absurd (none x (Contains-first x xs))
+-- ---- clashes
 
 least_hash-none : (hs : List Hash256) → least_hash hs ≡ None → hs ≡ []
 least_hash-none [] e = refl
@@ -105,8 +62,6 @@ same-told false f g same differ = differ refl
 -- faces are equal or not
 same-decided : (f g : FaceView) → ((f ≢ g) → ⊥) → f ≡ g
 same-decided f g none = same-told (same_face f g) f g (same_face-Decides f g).0 (λ other. absurd (none (λ same. true≢false (sym ((same_face-Decides f g).1 same) ∙ other))))
-
--- ---- clashes
 
 is_clash-is : (a b : HashedFace) → a.0 ≡ b.0 → a.1 ≢ b.1 → is_clash a b ≡ true
 is_clash-is a b same differ = and_from (same_hash a.0 b.0) (not (same_face a.1 b.1)) ((same_hash-Decides a.0 b.0).1 same) (differs (same_face a.1 b.1) (λ e. differ ((same_face-Decides a.1 b.1).0 e)))
@@ -202,7 +157,7 @@ clash_of-found H fs infos found shown is = sym (is ∙ ap (λ ks. clash_among (z
 
 -- ---- sorted keys of faces
 
-module _ (fs : List FaceView) (infos : List ChildInfo) (counted : length infos ≡ length fs) (keys : List Key) (moved : IsPermutation (keys_from rep_of_info 0 infos) keys) where
+module _ (fs : List FaceView) (infos : List ChildInfo) (counted : length infos ≡ length fs) (keys : List NumberedHash) (moved : IsPermutation (numbered_from rep_of_info 0 infos) keys) where
   abbrev hashed : List HashedFace
   hashed = zip (map rep_of_info infos) fs
 
@@ -210,17 +165,17 @@ module _ (fs : List FaceView) (infos : List ChildInfo) (counted : length infos �
   no_hashed = (no_hash, no_face)
 
   -- the face of a key behind its hash
-  abbrev hashed_of : Key → HashedFace
+  abbrev hashed_of : NumberedHash → HashedFace
   hashed_of key = (key.0, face_at fs key.1)
 
   long-hashed : length hashed ≡ length fs
   long-hashed = omega (arith, length-zip (map rep_of_info infos) fs, length-map infos rep_of_info, counted)
 
-  abbrev IsKey : Key → Type 0
+  abbrev IsKey : NumberedHash → Type 0
   IsKey key = (key.1 < length fs) × Contains hashed (hashed_of key)
 
-  key-here : (k : ℕ) (d : Key) → k < length fs → get_or (keys_from rep_of_info 0 infos) k d ≡ (rep_of_info (get_or infos k no_info), k)
-  key-here k d in' = keys_from-at rep_of_info no_info 0 infos k k d (omega arith) (omega (arith, counted))
+  key-here : (k : ℕ) (d : NumberedHash) → k < length fs → get_or (numbered_from rep_of_info 0 infos) k d ≡ (rep_of_info (get_or infos k no_info), k)
+  key-here k d in' = numbered_from-at rep_of_info no_info 0 infos k k d (omega arith) (omega (arith, counted))
 
   hashed-here : (k : ℕ) → k < length fs → get_or hashed k no_hashed ≡ (rep_of_info (get_or infos k no_info), face_at fs k)
   hashed-here k in' =
@@ -230,27 +185,27 @@ module _ (fs : List FaceView) (infos : List ChildInfo) (counted : length infos �
 
   keys-good : All IsKey keys
   keys-good =
-      All-permutation IsKey (keys_from rep_of_info 0 infos) keys moved
+      All-permutation IsKey (numbered_from rep_of_info 0 infos) keys moved
       (λ k d in'.
-      let below : k < length fs = omega (arith, in', length-keys_from rep_of_info 0 infos, counted) in
+      let below : k < length fs = omega (arith, in', length-numbered_from rep_of_info 0 infos, counted) in
       subst IsKey (sym (key-here k d below)) (below, subst (Contains hashed) (hashed-here k below) (Contains-get_or hashed k no_hashed (omega (arith, below, long-hashed)))))
 
-  pub keys-within : All (λ (key : Key). key.1 < length fs) keys
+  pub keys-within : All (λ (key : NumberedHash). key.1 < length fs) keys
   keys-within = λ k d in'. (keys-good k d in').0
 
-  place-of : (f : HashedFace) → Contains hashed f → (p : ℕ) × (p < length keys) × (hashed_of (key_at keys p) ≡ f)
+  place-of : (f : HashedFace) → Contains hashed f → (p : ℕ) × (p < length keys) × (hashed_of (numbered_at keys p) ≡ f)
   place-of f h =
       let number = h.0 in
       let below : number < length fs = omega (arith, h.1, long-hashed) in
-      let key : Key = (rep_of_info (get_or infos number no_info), number) in
-      let first = subst (Contains (keys_from rep_of_info 0 infos)) (key-here number no_key below) (Contains-get_or (keys_from rep_of_info 0 infos) number no_key (omega (arith, below, length-keys_from rep_of_info 0 infos, counted))) in
-      let found = Contains-permutation (keys_from rep_of_info 0 infos) keys key moved first in
-      let here : key_at keys found.0 ≡ key = get_or_default keys found.0 no_key key found.1 ∙ found.2 in
+      let key : NumberedHash = (rep_of_info (get_or infos number no_info), number) in
+      let first = subst (Contains (numbered_from rep_of_info 0 infos)) (key-here number no_numbered below) (Contains-get_or (numbered_from rep_of_info 0 infos) number no_numbered (omega (arith, below, length-numbered_from rep_of_info 0 infos, counted))) in
+      let found = Contains-permutation (numbered_from rep_of_info 0 infos) keys key moved first in
+      let here : numbered_at keys found.0 ≡ key = get_or_default keys found.0 no_numbered key found.1 ∙ found.2 in
       (found.0, found.1, ap hashed_of here ∙ sym (hashed-here number below) ∙ get_or_default hashed number no_hashed f h.1 ∙ h.2)
 
-  module _ (sorted : IsSorted key_cmp keys) where
+  module _ (sorted : IsSorted numbered_cmp keys) where
     -- keys that agree up to here have one face under a hash
-    same-under : (high : ℕ) → high ≤ length keys → AllAgree fs keys high → (hash : Hash256) (f g : FaceView) (p q : ℕ) → p < high → q < high → hashed_of (key_at keys p) ≡ (hash, f) → hashed_of (key_at keys q) ≡ (hash, g) → f ≡ g
+    same-under : (high : ℕ) → high ≤ length keys → AllAgree fs keys high → (hash : Hash256) (f g : FaceView) (p q : ℕ) → p < high → q < high → hashed_of (numbered_at keys p) ≡ (hash, f) → hashed_of (numbered_at keys q) ≡ (hash, g) → f ≡ g
     same-under high within all hash f g p q in-p in-q at-p at-q =
         let same = agree-both fs keys sorted high within all p q in-p in-q (ap (λ (x : HashedFace). x.0) at-p ∙ sym (ap (λ (x : HashedFace). x.0) at-q)) in
         sym (ap (λ (x : HashedFace). x.1) at-p) ∙ same ∙ ap (λ (x : HashedFace). x.1) at-q
@@ -267,8 +222,8 @@ module _ (fs : List FaceView) (infos : List ChildInfo) (counted : length infos �
     first-least hash first x c =
         let p = place-of (x, c.f) c.in_f in
         let q = place-of (x, c.g) c.in_g in
-        let from : (r : ℕ) → first.place ≤ r → r < length keys → (key_at keys r).0 ≡ x → IsUpTo x hash =
-        λ r above in' at. subst (IsUpTo x) first.left (subst (λ h. IsUpTo h (key_at keys first.place).0) at (hashes-sorted keys sorted first.place r no_key above in'))
+        let from : (r : ℕ) → first.place ≤ r → r < length keys → (numbered_at keys r).0 ≡ x → IsUpTo x hash =
+        λ r above in' at. subst (IsUpTo x) first.left (subst (λ h. IsUpTo h (numbered_at keys first.place).0) at (hashes-sorted keys sorted first.place r no_numbered above in'))
         in
         ⊎_elim
         (λ early-p.
@@ -282,14 +237,14 @@ module _ (fs : List FaceView) (infos : List ChildInfo) (counted : length infos �
 
     first-found : (hash : Hash256) → IsFirstClash fs keys hash → clash_among hashed ≡ Some hash
     first-found hash first =
-        let l = keys-good first.place no_key (omega (arith, first.there)) in
-        let r = keys-good (first.place + 1) no_key first.there in
+        let l = keys-good first.place no_numbered (omega (arith, first.there)) in
+        let r = keys-good (first.place + 1) no_numbered first.there in
         clash_among-least hashed hash
         (record {
-          f = face_at fs (key_at keys first.place).1;
-          g = face_at fs (key_at keys (first.place + 1)).1;
-          in_f = subst (λ x. Contains hashed (x, face_at fs (key_at keys first.place).1)) first.left l.1;
-          in_g = subst (λ x. Contains hashed (x, face_at fs (key_at keys (first.place + 1)).1)) first.right r.1;
+          f = face_at fs (numbered_at keys first.place).1;
+          g = face_at fs (numbered_at keys (first.place + 1)).1;
+          in_f = subst (λ x. Contains hashed (x, face_at fs (numbered_at keys first.place).1)) first.left l.1;
+          in_g = subst (λ x. Contains hashed (x, face_at fs (numbered_at keys (first.place + 1)).1)) first.right r.1;
           differ = first.differ;
         })
         (first-least hash first)
@@ -305,25 +260,25 @@ face_read faces k face below is = is ∙ get_or_default faces k face no_face bel
 
 -- ---- a step of the search
 
-module _ (faces : List FaceView) (keys : List Key) (place : ℕ) (d : Key) (some : 1 ≤ place) (in' : place < length keys) (all : AllAgree faces keys place) where
+module _ (faces : List FaceView) (keys : List NumberedHash) (place : ℕ) (d : NumberedHash) (some : 1 ≤ place) (in' : place < length keys) (all : AllAgree faces keys place) where
   pub first_at : (get_or keys (place - 1) d).0 ≡ (get_or keys place d).0 → face_at faces (get_or keys (place - 1) d).1 ≢ face_at faces (get_or keys place d).1 → IsFirstClash faces keys (get_or keys place d).0
   first_at same differ =
       let p : ℕ = place - 1 in
       let next : p + 1 ≡ place = omega arith in
-      let l : key_at keys p ≡ get_or keys p d = get_or_default keys p no_key d (omega arith) in
-      let r : key_at keys (p + 1) ≡ get_or keys place d = ap (key_at keys) next ∙ get_or_default keys place no_key d in' in
+      let l : numbered_at keys p ≡ get_or keys p d = get_or_default keys p no_numbered d (omega arith) in
+      let r : numbered_at keys (p + 1) ≡ get_or keys place d = ap (numbered_at keys) next ∙ get_or_default keys place no_numbered d in' in
       record {
         place = p;
         there = omega arith;
         before = subst (AllAgree faces keys) (sym next) all;
-        left = ap (λ (k : Key). k.0) l ∙ same;
-        right = ap (λ (k : Key). k.0) r;
-        differ = λ e. differ (sym (ap (λ (k : Key). face_at faces k.1) l) ∙ e ∙ ap (λ (k : Key). face_at faces k.1) r);
+        left = ap (λ (k : NumberedHash). k.0) l ∙ same;
+        right = ap (λ (k : NumberedHash). k.0) r;
+        differ = λ e. differ (sym (ap (λ (k : NumberedHash). face_at faces k.1) l) ∙ e ∙ ap (λ (k : NumberedHash). face_at faces k.1) r);
       }
 
   pub agree_more : Agree faces (get_or keys (place - 1) d) (get_or keys place d) → AllAgree faces keys (place + 1)
   agree_more agree =
       all_adjacent_more keys (Agree faces) place (omega arith) all
       (λ e.
-      subst (λ (k : Key). Agree faces k (get_or keys place e)) (get_or_default keys (place - 1) d e (omega arith))
-      (subst (λ (k : Key). Agree faces (get_or keys (place - 1) d) k) (get_or_default keys place d e in') agree))
+      subst (λ (k : NumberedHash). Agree faces k (get_or keys place e)) (get_or_default keys (place - 1) d e (omega arith))
+      (subst (λ (k : NumberedHash). Agree faces (get_or keys (place - 1) d) k) (get_or_default keys place d e in') agree))

@@ -8,12 +8,12 @@ const ROOM: usize = 2 + 128 + 4 * 2 + 4 * 32;
 
 /// The bytes to be hashed, put together in a fixed buffer: at most 266. Contracts see the list of the bytes.
 #[derive(Drop)]
-pub struct Text {
+pub struct DigestText {
     bytes: [u8; ROOM],
     len: usize,
 }
 
-impl Model for Text {
+impl Model for DigestText {
     ghost use Rattle.std.specs.Prelude.{List, ℕ, take, ◌≤◌};
 
     ghost Value = { List ℕ };
@@ -23,12 +23,12 @@ impl Model for Text {
     ghost invariant = { λ t. t.len ≤ 266 };
 }
 
-impl Text {
+impl DigestText {
     /// No bytes.
-    pub fn new() -> Text
+    pub fn new() -> DigestText
         ensures { result ≡ [] }
     {
-        Text {
+        DigestText {
             bytes: [0; ROOM],
             len: 0,
         }

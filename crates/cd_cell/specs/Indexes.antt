@@ -6,7 +6,7 @@ use Rattle.cd_base.specs.declared.hash.Hash256.{Hash256}
 use Rattle.cd_cell.specs.Infos.{no_hash}
 use Rattle.cd_cell.specs.Equality.{same_hash}
 use Rattle.cd_cell.specs.Export.{hash_cmp}
-use Rattle.cd_update.specs.declared.index.Index.{Index}
+use Rattle.cd_cell.specs.declared.index.Index.{Index}
 
 pub record IsIndex (index : Index) (keys : List Hash256) : Type 0 where
   pub found : (hash : Hash256) (place : ℕ) → get hash_cmp index.places hash ≡ Some place → (place < length keys) × (slice_index_or keys place no_hash ≡ hash)

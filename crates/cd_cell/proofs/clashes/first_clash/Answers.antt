@@ -1,9 +1,9 @@
 use Rattle.std.proofs.Common.{[]}
-use Rattle.cd_boc_read.specs.Clashes.{Key}
-use Rattle.cd_boc_read.proofs.ClashLaws.{first_at, agree_more}
-use Rattle.cd_boc_read.proofs.clashes.first_clash.Goals as goal
+use Rattle.cd_cell.specs.ClashSearch.{NumberedHash}
+use Rattle.cd_cell.proofs.ClashLaws.{first_at, agree_more}
+use Rattle.cd_cell.proofs.clashes.first_clash.Goals as goal
 
-abbrev absent : Key
+abbrev absent : NumberedHash
 absent = (record { 0 = [] }, 0)
 
 pub returns-then-clash-clause-some : goal.returns-then-clash-clause-some
