@@ -5,11 +5,12 @@ use Rattle.std.specs.Option.{option_or}
 use Rattle.cd_base.specs.declared.hash.Hash256.{Hash256}
 use Rattle.cd_cell.specs.declared.kind.Kind.TheVariants.{Update}
 use Rattle.cd_cell.specs.FaceView.{FaceView}
+use Rattle.cd_cell.specs.BagView.{BagView}
 use Rattle.cd_cell.specs.Levels.{kind_of_face}
 use Rattle.cd_cell.specs.Tree.{Tree, kind_of, mask_of, IsWellFormed}
 use Rattle.cd_cell.specs.Equality.{same_hash, same_hash-Decides}
 use Rattle.cd_cell.specs.Updates.{UpdateRefusal, half_of}
-use Rattle.cd_cell.specs.Bags.{bag_cell, IsBag}
+use Rattle.cd_cell.specs.Bags.{bag_tree, IsBag}
 use Rattle.cd_cell.proofs.BagLaws.{face_of-bag, info_of-bag, well_formed-bag}
 use Rattle.cd_update.specs.declared.visit.Node.{Node}
 use Rattle.cd_update.specs.declared.visit.Visit.{Visit}
@@ -41,36 +42,36 @@ pub told_as : (fault : PairFault) (p q : Option UpdateRefusal) → p ≡ q → (
 told_as fault p q same (inl e) = inl e
 told_as fault p q same (inr e) = inr (e ∙ same)
 
-module _ (H : List ℕ → Hash256) (cells : List FaceView) (refs : List (List ℕ)) (roots : List ℕ) (bag : IsBag H cells refs roots) (root : ℕ) (entry : IsUpdateEntry cells root) where
+module _ (H : List ℕ → Hash256) (bag : BagView) (is_bag : IsBag H bag.cells bag.refs bag.roots) (root : ℕ) (entry : IsUpdateEntry cells root) where
   abbrev pub update_cell : Tree
-  update_cell = bag_cell cells refs root
+  update_cell = bag_tree bag root
 
   pub well-update : IsWellFormed H update_cell
-  well-update = well_formed-bag H cells refs roots bag root entry.there
+  well-update = well_formed-bag H bag.cells bag.refs bag.roots is_bag root entry.there
 
   pub kind-update : kind_of H update_cell ≡ Some Update
-  kind-update = ap kind_of_face (face_of-bag H cells refs roots bag root) ∙ entry.kind
+  kind-update = ap kind_of_face (face_of-bag H bag.cells bag.refs bag.roots is_bag root) ∙ entry.kind
 
   pub mask-update : mask_of H update_cell ≡ 0
-  mask-update = ap (λ k. k.mask) (info_of-bag H cells refs roots bag root) ∙ entry.plain
+  mask-update = ap (λ k. k.mask) (info_of-bag H bag.cells bag.refs bag.roots is_bag root) ∙ entry.plain
 
-  module _ (place : ℕ) (visits : List Visit) (n : Node) (in' : n.entry < length cells) (depth : n.depth ≡ 0) (half : bag_cell cells refs n.entry ≡ half_of update_cell place) (all : nodes_of visits ≡ each_once same_node (nodes_from cells refs n)) where
-    half-places : places H (bag_cell cells refs n.entry) n.depth ≡ places H (half_of update_cell place) 0
+  module _ (place : ℕ) (visits : List Visit) (n : Node) (in' : n.entry < length bag.cells) (depth : n.depth ≡ 0) (half : bag_tree bag n.entry ≡ half_of update_cell place) (all : nodes_of visits ≡ each_once same_node (nodes_from bag n)) where
+    half-places : places H (bag_tree bag n.entry) n.depth ≡ places H (half_of update_cell place) 0
     half-places = ap₂ (places H) half depth
 
-    pub each_once-half : {B : Type 0} (like : B → B → Bool) (tell : (a b : B) → Decides (like a b) (a ≡ b)) (f : Place → List B) → each_once like (flat_map f (visited cells refs visits)) ≡ each_once like (flat_map f (places H (half_of update_cell place) 0))
-    each_once-half like tell f = each_once-visited H cells refs roots bag visits n in' all like tell f ∙ ap (λ ps. each_once like (flat_map f ps)) half-places
+    pub each_once-half : {B : Type 0} (like : B → B → Bool) (tell : (a b : B) → Decides (like a b) (a ≡ b)) (f : Place → List B) → each_once like (flat_map f (visited bag visits)) ≡ each_once like (flat_map f (places H (half_of update_cell place) 0))
+    each_once-half like tell f = each_once-visited H bag is_bag visits n in' all like tell f ∙ ap (λ ps. each_once like (flat_map f ps)) half-places
 
-    pub first_of-half : {B : Type 0} (ask : Place → Option B) → first_of ask (visited cells refs visits) ≡ first_of ask (places H (half_of update_cell place) 0)
-    first_of-half ask = first_of-visited H cells refs roots bag visits n in' all ask ∙ ap (first_of ask) half-places
+    pub first_of-half : {B : Type 0} (ask : Place → Option B) → first_of ask (visited bag visits) ≡ first_of ask (places H (half_of update_cell place) 0)
+    first_of-half ask = first_of-visited H bag is_bag visits n in' all ask ∙ ap (first_of ask) half-places
 
-  module _ (visits : List Visit) (n : Node) (in' : n.entry < length cells) (depth : n.depth ≡ 0) (half : bag_cell cells refs n.entry ≡ half_of update_cell 0) (all : nodes_of visits ≡ each_once same_node (nodes_from cells refs n)) where
-    pub wanted-half : each_once same_hash (flat_map (wanted_at H) (visited cells refs visits)) ≡ wanted_hashes H update_cell
+  module _ (visits : List Visit) (n : Node) (in' : n.entry < length bag.cells) (depth : n.depth ≡ 0) (half : bag_tree bag n.entry ≡ half_of update_cell 0) (all : nodes_of visits ≡ each_once same_node (nodes_from bag n)) where
+    pub wanted-half : each_once same_hash (flat_map (wanted_at H) (visited bag visits)) ≡ wanted_hashes H update_cell
     wanted-half =
         each_once-half 0 visits n in' depth half all same_hash same_hash-Decides (wanted_at H)
         ∙ ap (each_once same_hash) (sym (wanted-places H (half_of update_cell 0) 0))
 
-    pub misfit-half : (faces : List (Option FaceView)) → first_of (misfit_at H (beside (each_once same_hash (flat_map (wanted_at H) (visited cells refs visits))) faces)) (visited cells refs visits) ≡ first_misfit H (beside (wanted_hashes H update_cell) faces) (half_of update_cell 0)
+    pub misfit-half : (faces : List (Option FaceView)) → first_of (misfit_at H (beside (each_once same_hash (flat_map (wanted_at H) (visited bag visits))) faces)) (visited bag visits) ≡ first_misfit H (beside (wanted_hashes H update_cell) faces) (half_of update_cell 0)
     misfit-half faces =
-        ap (λ ws. first_of (misfit_at H (beside ws faces)) (visited cells refs visits)) wanted-half
+        ap (λ ws. first_of (misfit_at H (beside ws faces)) (visited bag visits)) wanted-half
         ∙ first_of-half 0 visits n in' depth half all (misfit_at H (beside (wanted_hashes H update_cell) faces))

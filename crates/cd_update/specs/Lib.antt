@@ -6,3 +6,6 @@ pub mod Visits
 pub mod Pairing
 pub mod Faults
 pub mod Grafts
+pub mod GraftSteps
+pub mod GraftWalks
+pub mod UpdateTrees

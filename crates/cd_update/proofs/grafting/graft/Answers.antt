@@ -22,8 +22,8 @@ returns-in-Some-clause-refused g c =
     inr
     (sym c.in-Some.is
     ∙ c.unknown.ensures
-    ∙ ap (λ vs. first_of (foreign_at H known) (visited bag.cells bag.refs vs)) c.as_slice.ensures.value
-    ∙ first_of-half H bag.cells bag.refs bag.roots update.is_bag update.root update.is_update 1 c.in-Ok.walk.visits.items c.half-start.result.node c.half-start.ensures.shown.entry c.half-start.ensures.depth c.half-start.ensures.cell c.in-Ok.ensures.nodes (foreign_at H known))
+    ∙ ap (λ vs. first_of (foreign_at H known) (visited bag vs)) c.as_slice.ensures.value
+    ∙ first_of-half H bag update.is_bag update.root update.is_update 1 c.in-Ok.walk.visits.items c.half-start.result.node c.half-start.ensures.shown.entry c.half-start.ensures.depth c.half-start.ensures.cell c.in-Ok.ensures.nodes (foreign_at H known))
 
 pub returns-in-Some-clause-tree : goal.returns-in-Some-clause-tree
 returns-in-Some-clause-tree g c ts are =
@@ -35,8 +35,8 @@ returns-in-Some-clause-tree g c ts are =
     inr
     (sym c.in-Some.is
     ∙ c.unknown.ensures
-    ∙ ap (λ vs. first_of (foreign_at H known) (visited bag.cells bag.refs vs)) c.as_slice.ensures.value
-    ∙ first_of-half H bag.cells bag.refs bag.roots update.is_bag update.root update.is_update 1 c.in-Ok.walk.visits.items c.half-start.result.node c.half-start.ensures.shown.entry c.half-start.ensures.depth c.half-start.ensures.cell c.in-Ok.ensures.nodes (foreign_at H known)
+    ∙ ap (λ vs. first_of (foreign_at H known) (visited bag vs)) c.as_slice.ensures.value
+    ∙ first_of-half H bag update.is_bag update.root update.is_update 1 c.in-Ok.walk.visits.items c.half-start.result.node c.half-start.ensures.shown.entry c.half-start.ensures.depth c.half-start.ensures.cell c.in-Ok.ensures.nodes (foreign_at H known)
     ∙ foreign-tree H ts known are (half_of u 1) 0)
 
 pub grafted_of-requires-after_bounds : goal.grafted_of-requires-after_bounds
@@ -47,7 +47,7 @@ grafted_of-requires-after_bounds g c κs within =
     let known = c.args.known.now.infos in
     let n = c.half-start.result.node in
     let u = bag_tree bag update.root in
-    let low = mask-new H u (well-update H bag.cells bag.refs bag.roots update.is_bag update.root update.is_update) (kind-update H bag.cells bag.refs bag.roots update.is_bag update.root update.is_update) (mask-update H bag.cells bag.refs bag.roots update.is_bag update.root update.is_update) in
+    let low = mask-new H u (well-update H bag update.is_bag update.root update.is_update) (kind-update H bag update.is_bag update.root update.is_update) (mask-update H bag update.is_bag update.root update.is_update) in
     record {
       shown = c.in-Ok.ensures.shown;
       first = c.half-start.ensures.shown;
@@ -57,8 +57,8 @@ grafted_of-requires-after_bounds g c κs within =
           subst (λ d. mask_of H (bag_tree bag n.entry) < 2 ^ (d + 1)) (sym c.half-start.ensures.depth)
           (subst (λ t. mask_of H t < 2) (sym c.half-start.ensures.cell) low);
       found =
-          sym (first_of-visited H bag.cells bag.refs bag.roots update.is_bag c.in-Ok.walk.visits.items n c.half-start.ensures.shown.entry c.in-Ok.ensures.nodes (foreign_at H known))
-          ∙ ap (λ vs. first_of (foreign_at H known) (visited bag.cells bag.refs vs)) (sym c.as_slice.ensures.value)
+          sym (first_of-visited H bag update.is_bag c.in-Ok.walk.visits.items n c.half-start.ensures.shown.entry c.in-Ok.ensures.nodes (foreign_at H known))
+          ∙ ap (λ vs. first_of (foreign_at H known) (visited bag vs)) (sym c.as_slice.ensures.value)
           ∙ sym c.unknown.ensures
           ∙ c.in_default-unknown.is;
       old = c.args.known.now.old;
@@ -70,8 +70,8 @@ returns-in-Ok-grafted_of-clause-refused g c =
     let update = c.args.update.now in
     let bag = update.bag.now in
     let known = c.args.known.now.infos in
-    sym (first_of-half H bag.cells bag.refs bag.roots update.is_bag update.root update.is_update 1 c.in-Ok.walk.visits.items c.half-start.result.node c.half-start.ensures.shown.entry c.half-start.ensures.depth c.half-start.ensures.cell c.in-Ok.ensures.nodes (foreign_at H known))
-    ∙ ap (λ vs. first_of (foreign_at H known) (visited bag.cells bag.refs vs)) (sym c.as_slice.ensures.value)
+    sym (first_of-half H bag update.is_bag update.root update.is_update 1 c.in-Ok.walk.visits.items c.half-start.result.node c.half-start.ensures.shown.entry c.half-start.ensures.depth c.half-start.ensures.cell c.in-Ok.ensures.nodes (foreign_at H known))
+    ∙ ap (λ vs. first_of (foreign_at H known) (visited bag vs)) (sym c.as_slice.ensures.value)
     ∙ sym c.unknown.ensures
     ∙ c.in_default-unknown.is
 
@@ -81,7 +81,7 @@ returns-in-Ok-grafted_of-clause-cells g c =
     let update = c.args.update.now in
     let bag = update.bag.now in
     c.in-Ok-grafted_of.ensures.cells
-    ∙ each_once-half H bag.cells bag.refs bag.roots update.is_bag update.root update.is_update 1 c.in-Ok.walk.visits.items c.half-start.result.node c.half-start.ensures.shown.entry c.half-start.ensures.depth c.half-start.ensures.cell c.in-Ok.ensures.nodes same_face same_face-Decides (own_face_at H c.args.known.now.infos)
+    ∙ each_once-half H bag update.is_bag update.root update.is_update 1 c.in-Ok.walk.visits.items c.half-start.result.node c.half-start.ensures.shown.entry c.half-start.ensures.depth c.half-start.ensures.cell c.in-Ok.ensures.nodes same_face same_face-Decides (own_face_at H c.args.known.now.infos)
 
 pub returns-in-Ok-grafted_of-clause-tree : goal.returns-in-Ok-grafted_of-clause-tree
 returns-in-Ok-grafted_of-clause-tree g c ts are =

@@ -46,8 +46,8 @@ new_info-info-requires-clause-grafted g c κs within =
     let back = walk.numbered.back left c.in-Some.number some in
     let read : c.index-visit.result.now ≡ visit_at walk.visits.items c.in-Some.number = c.index-visit.ensures ∙ get_or_default walk.visits.items c.in-Some.number c.index-visit.result.now no_visit back.0 in
     let here : c.loop-left.left ≡ spot c.index-visit.result.now.node + 1 = omega (arith, ap (λ v. spot v.node) read, back.1) in
-    subst (λ from. AreGrafted g.H.Hash32.digest_of c.args.known.now.infos bag.cells bag.refs walk.visits.items from c.as_slice.result.now) here
-    (subst (AreGrafted g.H.Hash32.digest_of c.args.known.now.infos bag.cells bag.refs walk.visits.items c.loop-left.left) (sym c.as_slice.ensures.value) c.loop-left.invariant.grafted)
+    subst (λ from. AreGrafted g.H.Hash32.digest_of c.args.known.now.infos bag walk.visits.items from c.as_slice.result.now) here
+    (subst (AreGrafted g.H.Hash32.digest_of c.args.known.now.infos bag walk.visits.items c.loop-left.left) (sym c.as_slice.ensures.value) c.loop-left.invariant.grafted)
 
 pub index_mut-requires : goal.index_mut-requires
 index_mut-requires g c =
@@ -72,7 +72,7 @@ loop-left-preserved-in-Some g c =
     record {
       grafted =
           grafted-more H known bag.cells bag.refs bag.roots c.shown_info.ensures.kept c.args.start.now walk.visits.items walk.numbers.items c.requires c.loop-left.infos.items left walk.numbered
-          (subst (λ from. AreGrafted H known bag.cells bag.refs walk.visits.items from c.loop-left.infos.items) next c.loop-left.invariant.grafted)
+          (subst (λ from. AreGrafted H known bag walk.visits.items from c.loop-left.infos.items) next c.loop-left.invariant.grafted)
           c.in-Some.number c.new_info-info.result some
           (c.new_info-info.ensures ∙ ap (λ v. grafted_info H known (bag_tree bag v.node.entry) v.node.depth) read);
       low = omega (arith, c.loop-left.invariant.low);
@@ -91,7 +91,7 @@ loop-left-preserved g c =
     record {
       grafted =
           grafted-skip H known bag.cells bag.refs bag.roots c.shown_info.ensures.kept c.args.start.now walk.visits.items walk.numbers.items c.requires c.loop-left.infos.items left walk.numbered
-          (subst (λ from. AreGrafted H known bag.cells bag.refs walk.visits.items from c.loop-left.infos.items) next c.loop-left.invariant.grafted) none;
+          (subst (λ from. AreGrafted H known bag walk.visits.items from c.loop-left.infos.items) next c.loop-left.invariant.grafted) none;
       low = omega (arith, c.loop-left.invariant.low);
     }
 
@@ -99,4 +99,4 @@ pub returns : goal.returns
 returns g c =
     let bag = c.args.bag.now in
     let end : c.loop-left.left ≡ 0 = omega arith in
-    subst (λ from. AreGrafted g.H.Hash32.digest_of c.args.known.now.infos bag.cells bag.refs c.args.walk.now.visits.items from c.loop-left.infos.items) end c.loop-left.invariant.grafted
+    subst (λ from. AreGrafted g.H.Hash32.digest_of c.args.known.now.infos bag c.args.walk.now.visits.items from c.loop-left.infos.items) end c.loop-left.invariant.grafted

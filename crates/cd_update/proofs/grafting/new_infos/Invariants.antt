@@ -5,7 +5,7 @@ use Rattle.cd_update.proofs.grafting.new_infos.Given as goal
 
 abbrev pub invariant-loop-left : goal.invariant-loop-left
 invariant-loop-left g l = record {
-  grafted : AreGrafted g.H.Hash32.digest_of l.known.infos l.bag.cells l.bag.refs l.walk.visits.items l.left l.infos.items;
+  grafted : AreGrafted g.H.Hash32.digest_of l.known.infos l.bag l.walk.visits.items l.left l.infos.items;
   low : l.left ≤ length l.walk.numbers.items;
 }
 

@@ -26,18 +26,18 @@ loop-number-preserved-then-is_hidden g c =
     let read : c.index-visit.result.now ≡ visit_at visits i = c.index-visit.ensures ∙ get_or_default visits i c.index-visit.result.now no_visit in' in
     let n = c.index-visit.result.now.node in
     let hidden = ap (is_hidden n.depth) c.face-shown.ensures.cell ∙ sym c.is_hidden.ensures ∙ c.if-is_hidden.true in
-    let none = ap (λ v. own_face_at H known (place_of bag.cells bag.refs v.node)) (sym read) ∙ ap (λ b. if b then [] else grafted_face H known (bag_tree bag n.entry) n.depth ∷ []) hidden in
+    let none = ap (λ v. own_face_at H known (place_of bag v.node)) (sym read) ∙ ap (λ b. if b then [] else grafted_face H known (bag_tree bag n.entry) n.depth ∷ []) hidden in
     record {
       cells =
           c.loop-number.invariant.cells
-          ∙ sym (each_once-more bag.cells bag.refs visits i in' same_face (own_face_at H known) ∙ ap (fold (with_new same_face) (each_once same_face (flat_map (own_face_at H known) (visited bag.cells bag.refs (take i visits))))) none);
+          ∙ sym (each_once-more bag visits i in' same_face (own_face_at H known) ∙ ap (fold (with_new same_face) (each_once same_face (flat_map (own_face_at H known) (visited bag (take i visits))))) none);
       infos = c.loop-number.invariant.infos;
     }
 
 pub new_face-face-requires-clause-grafted : goal.new_face-face-requires-clause-grafted
 new_face-face-requires-clause-grafted g c κs within =
     let bag = c.args.bag.now in
-    grafted-weaker g.H.Hash32.digest_of c.args.known.now.infos bag.cells bag.refs c.args.walk.now.visits.items (spot c.index-visit.result.now.node + 1) c.args.infos.now c.requires.grafted
+    grafted-weaker g.H.Hash32.digest_of c.args.known.now.infos bag c.args.walk.now.visits.items (spot c.index-visit.result.now.node + 1) c.args.infos.now c.requires.grafted
 
 pub add-requires-clause-info : goal.add-requires-clause-info
 add-requires-clause-info g c κs within =
@@ -71,11 +71,11 @@ loop-number-preserved g c =
     let read : c.index-visit.result.now ≡ visit_at visits i = c.index-visit.ensures ∙ get_or_default visits i c.index-visit.result.now no_visit in' in
     let n = c.index-visit.result.now.node in
     let shown = ap (is_hidden n.depth) c.face-shown.ensures.cell ∙ sym c.is_hidden.ensures ∙ c.if-is_hidden.false in
-    let one = ap (λ v. own_face_at H known (place_of bag.cells bag.refs v.node)) (sym read) ∙ ap (λ b. if b then [] else grafted_face H known (bag_tree bag n.entry) n.depth ∷ []) shown in
+    let one = ap (λ v. own_face_at H known (place_of bag v.node)) (sym read) ∙ ap (λ b. if b then [] else grafted_face H known (bag_tree bag n.entry) n.depth ∷ []) shown in
     record {
       cells =
           c.in_ok-add.ensures.cells
           ∙ ap₂ (with_new same_face) c.loop-number.invariant.cells c.new_face-face.ensures
-          ∙ sym (each_once-more bag.cells bag.refs visits i in' same_face (own_face_at H known) ∙ ap (fold (with_new same_face) (each_once same_face (flat_map (own_face_at H known) (visited bag.cells bag.refs (take i visits))))) one);
+          ∙ sym (each_once-more bag visits i in' same_face (own_face_at H known) ∙ ap (fold (with_new same_face) (each_once same_face (flat_map (own_face_at H known) (visited bag (take i visits))))) one);
       infos = c.in_ok-add.ensures.infos;
     }

@@ -9,6 +9,6 @@ use Rattle.cd_update.proofs.grafting.own_of.Given as goal
 
 abbrev pub invariant-loop-number : goal.invariant-loop-number
 invariant-loop-number g l = record {
-  cells : l.own.cells.items ≡ each_once same_face (flat_map (own_face_at g.H.Hash32.digest_of l.known.infos) (visited l.bag.cells l.bag.refs (take l.number l.walk.visits.items)));
+  cells : l.own.cells.items ≡ each_once same_face (flat_map (own_face_at g.H.Hash32.digest_of l.known.infos) (visited l.bag (take l.number l.walk.visits.items)));
   infos : l.own.infos.items ≡ map (info_of_face g.H.Hash32.digest_of) l.own.cells.items;
 }

@@ -19,7 +19,7 @@ returns-in-Err-clause-refused g c =
     let update = c.args.update.now in
     let bag = update.bag.now in
     let u = bag_tree bag update.root in
-    let split = refusal-half H u (well-update H bag.cells bag.refs bag.roots update.is_bag update.root update.is_update) (kind-update H bag.cells bag.refs bag.roots update.is_bag update.root update.is_update) c.args.root.now c.args.faces.now in
+    let split = refusal-half H u (well-update H bag update.is_bag update.root update.is_update) (kind-update H bag update.is_bag update.root update.is_update) c.args.root.now c.args.faces.now in
     told_as c.in-Err.fault (option_or (root_refusal (hash_at H (half_of u 0) 0) (depth_at H (half_of u 0) 0) c.args.root.now) (option_map (λ x. old_half x) (first_misfit H (beside (wanted_hashes H u) c.args.faces.now) (half_of u 0)))) (pair_refusal H u c.args.root.now c.args.faces.now) (sym split)
     (or_told c.in-Err.fault (root_refusal (hash_at H (half_of u 0) 0) (depth_at H (half_of u 0) 0) c.args.root.now) (option_map (λ x. old_half x) (first_misfit H (beside (wanted_hashes H u) c.args.faces.now) (half_of u 0))) c.in-Err.ensures)
 
@@ -30,14 +30,14 @@ returns-in-Err-clause-tree g c t are =
     let bag = update.bag.now in
     let u = bag_tree bag update.root in
     told_as c.in-Err.fault (pair_refusal H u c.args.root.now c.args.faces.now) (tree_refusal H u t)
-    (refusal-tree H u (well-update H bag.cells bag.refs bag.roots update.is_bag update.root update.is_update) (kind-update H bag.cells bag.refs bag.roots update.is_bag update.root update.is_update) t c.args.root.now c.args.faces.now are)
+    (refusal-tree H u (well-update H bag update.is_bag update.root update.is_update) (kind-update H bag update.is_bag update.root update.is_update) t c.args.root.now c.args.faces.now are)
     (returns-in-Err-clause-refused g c)
 
 pub check_visits-requires-after_bounds : goal.check_visits-requires-after_bounds
-check_visits-requires-after_bounds g c κs within = subst (All (IsShown g.H.Hash32.digest_of c.args.update.now.bag.now.cells)) (sym c.as_slice-visits.ensures.value) c.in-Ok.ensures.shown
+check_visits-requires-after_bounds g c κs within = subst (All (IsShown g.H.Hash32.digest_of c.args.update.now.bag.now)) (sym c.as_slice-visits.ensures.value) c.in-Ok.ensures.shown
 
 pub infos_of-requires-after_bounds : goal.infos_of-requires-after_bounds
-infos_of-requires-after_bounds g c κs within = subst (All (IsShown g.H.Hash32.digest_of c.args.update.now.bag.now.cells)) (sym c.as_slice-visits.ensures.value) c.in-Ok.ensures.shown
+infos_of-requires-after_bounds g c κs within = subst (All (IsShown g.H.Hash32.digest_of c.args.update.now.bag.now)) (sym c.as_slice-visits.ensures.value) c.in-Ok.ensures.shown
 
 pub returns-in-Err-check_visits-clause-refused : goal.returns-in-Err-check_visits-clause-refused
 returns-in-Err-check_visits-clause-refused g c =
@@ -49,10 +49,10 @@ returns-in-Err-check_visits-clause-refused g c =
     let u = bag_tree bag update.root in
     let R = root_refusal (hash_at H (half_of u 0) 0) (depth_at H (half_of u 0) 0) c.args.root.now in
     let X = option_map (λ x. old_half x) (first_misfit H (beside (wanted_hashes H u) faces) (half_of u 0)) in
-    let split = refusal-half H u (well-update H bag.cells bag.refs bag.roots update.is_bag update.root update.is_update) (kind-update H bag.cells bag.refs bag.roots update.is_bag update.root update.is_update) c.args.root.now faces in
+    let split = refusal-half H u (well-update H bag update.is_bag update.root update.is_update) (kind-update H bag update.is_bag update.root update.is_update) c.args.root.now faces in
     let misfits =
-    ap (λ vs. first_of (misfit_at H (beside (each_once same_hash (flat_map (wanted_at H) (visited bag.cells bag.refs vs))) faces)) (visited bag.cells bag.refs vs)) c.as_slice-visits.ensures.value
-    ∙ misfit-half H bag.cells bag.refs bag.roots update.is_bag update.root update.is_update c.in-Ok.walk.visits.items c.half.result.node c.half.ensures.shown.entry c.half.ensures.depth c.half.ensures.cell c.in-Ok.ensures.nodes faces
+    ap (λ vs. first_of (misfit_at H (beside (each_once same_hash (flat_map (wanted_at H) (visited bag vs))) faces)) (visited bag vs)) c.as_slice-visits.ensures.value
+    ∙ misfit-half H bag update.is_bag update.root update.is_update c.in-Ok.walk.visits.items c.half.result.node c.half.ensures.shown.entry c.half.ensures.depth c.half.ensures.cell c.in-Ok.ensures.nodes faces
     in
     told_as fault (option_or R X) (pair_refusal H u c.args.root.now faces) (sym split)
     (told_later fault R X c.in_default.ensures (told_as fault _ X (ap (option_map (λ x. old_half x)) misfits) c.in-Err-check_visits.ensures))
@@ -64,7 +64,7 @@ returns-in-Err-check_visits-clause-tree g c t are =
     let bag = update.bag.now in
     let u = bag_tree bag update.root in
     told_as c.in-Err-check_visits.fault (pair_refusal H u c.args.root.now c.args.faces.now) (tree_refusal H u t)
-    (refusal-tree H u (well-update H bag.cells bag.refs bag.roots update.is_bag update.root update.is_update) (kind-update H bag.cells bag.refs bag.roots update.is_bag update.root update.is_update) t c.args.root.now c.args.faces.now are)
+    (refusal-tree H u (well-update H bag update.is_bag update.root update.is_update) (kind-update H bag update.is_bag update.root update.is_update) t c.args.root.now c.args.faces.now are)
     (returns-in-Err-check_visits-clause-refused g c)
 
 pub returns-in-Ok-infos_of-clause-refused : goal.returns-in-Ok-infos_of-clause-refused
@@ -75,10 +75,10 @@ returns-in-Ok-infos_of-clause-refused g c =
     let faces = c.args.faces.now in
     let u = bag_tree bag update.root in
     let X = option_map (λ x. old_half x) (first_misfit H (beside (wanted_hashes H u) faces) (half_of u 0)) in
-    let split = refusal-half H u (well-update H bag.cells bag.refs bag.roots update.is_bag update.root update.is_update) (kind-update H bag.cells bag.refs bag.roots update.is_bag update.root update.is_update) c.args.root.now faces in
+    let split = refusal-half H u (well-update H bag update.is_bag update.root update.is_update) (kind-update H bag update.is_bag update.root update.is_update) c.args.root.now faces in
     let misfits =
-    ap (λ vs. first_of (misfit_at H (beside (each_once same_hash (flat_map (wanted_at H) (visited bag.cells bag.refs vs))) faces)) (visited bag.cells bag.refs vs)) c.as_slice-visits.ensures.value
-    ∙ misfit-half H bag.cells bag.refs bag.roots update.is_bag update.root update.is_update c.in-Ok.walk.visits.items c.half.result.node c.half.ensures.shown.entry c.half.ensures.depth c.half.ensures.cell c.in-Ok.ensures.nodes faces
+    ap (λ vs. first_of (misfit_at H (beside (each_once same_hash (flat_map (wanted_at H) (visited bag vs))) faces)) (visited bag vs)) c.as_slice-visits.ensures.value
+    ∙ misfit-half H bag update.is_bag update.root update.is_update c.in-Ok.walk.visits.items c.half.result.node c.half.ensures.shown.entry c.half.ensures.depth c.half.ensures.cell c.in-Ok.ensures.nodes faces
     in
     split ∙ ap (λ o. option_or o X) c.in_default.ensures ∙ ap (option_map (λ x. old_half x)) (sym misfits ∙ c.in_default-check_visits.ensures)
 
@@ -88,8 +88,8 @@ returns-in-Ok-infos_of-clause-infos g c =
     let update = c.args.update.now in
     let bag = update.bag.now in
     c.in-Ok-infos_of.ensures
-    ∙ ap (λ vs. each_once same_info (flat_map (known_at H) (visited bag.cells bag.refs vs))) c.as_slice-visits.ensures.value
-    ∙ each_once-half H bag.cells bag.refs bag.roots update.is_bag update.root update.is_update 0 c.in-Ok.walk.visits.items c.half.result.node c.half.ensures.shown.entry c.half.ensures.depth c.half.ensures.cell c.in-Ok.ensures.nodes same_info same_info-Decides (known_at H)
+    ∙ ap (λ vs. each_once same_info (flat_map (known_at H) (visited bag vs))) c.as_slice-visits.ensures.value
+    ∙ each_once-half H bag update.is_bag update.root update.is_update 0 c.in-Ok.walk.visits.items c.half.result.node c.half.ensures.shown.entry c.half.ensures.depth c.half.ensures.cell c.in-Ok.ensures.nodes same_info same_info-Decides (known_at H)
 
 pub returns-in-Ok-infos_of-clause-tree : goal.returns-in-Ok-infos_of-clause-tree
 returns-in-Ok-infos_of-clause-tree g c t are =
@@ -97,8 +97,8 @@ returns-in-Ok-infos_of-clause-tree g c t are =
     let update = c.args.update.now in
     let bag = update.bag.now in
     let u = bag_tree bag update.root in
-    let well = well-update H bag.cells bag.refs bag.roots update.is_bag update.root update.is_update in
-    let kind = kind-update H bag.cells bag.refs bag.roots update.is_bag update.root update.is_update in
+    let well = well-update H bag update.is_bag update.root update.is_update in
+    let kind = kind-update H bag update.is_bag update.root update.is_update in
     let none = returns-in-Ok-infos_of-clause-refused g c in (
       sym (refusal-tree H u well kind t c.args.root.now c.args.faces.now are) ∙ none,
       returns-in-Ok-infos_of-clause-infos g c ∙ ap (each_once same_info) (known-tree H u well kind t c.args.root.now c.args.faces.now are none),

@@ -18,8 +18,8 @@ returns g c =
     let n = c.half.result.node in
     let u = bag_tree bag c.args.self.now.root in
     c.in_ok-hashes.ensures
-    ∙ ap (λ vs. each_once same_hash (flat_map (wanted_at H) (visited bag.cells bag.refs vs))) c.as_slice.ensures.value
-    ∙ each_once-visited H bag.cells bag.refs bag.roots c.args.self.now.is_bag c.in_ok-walk.walk.visits.items n c.half.ensures.shown.entry c.in_ok-walk.ensures.nodes same_hash same_hash-Decides (wanted_at H)
+    ∙ ap (λ vs. each_once same_hash (flat_map (wanted_at H) (visited bag vs))) c.as_slice.ensures.value
+    ∙ each_once-visited H bag c.args.self.now.is_bag c.in_ok-walk.walk.visits.items n c.half.ensures.shown.entry c.in_ok-walk.ensures.nodes same_hash same_hash-Decides (wanted_at H)
     ∙ ap (λ d. each_once same_hash (flat_map (wanted_at H) (places H (bag_tree bag n.entry) d))) c.half.ensures.depth
     ∙ ap (λ t. each_once same_hash (flat_map (wanted_at H) (places H t 0))) c.half.ensures.cell
     ∙ ap (each_once same_hash) (sym (wanted-places H (half_of u 0) 0))
