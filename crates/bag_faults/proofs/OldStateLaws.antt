@@ -15,15 +15,15 @@ use Rattle.cd_cell.specs.Infos.{no_hash}
 use Rattle.cd_cell.specs.GoodFace.{IsGoodFace}
 use Rattle.cd_cell.specs.Tree.{Tree, cell, Trees, no_trees, tree_and, subtrees, subtrees_of_all, info_of, face_of, rep_of, IsWellFormed, AreWellFormed}
 use Rattle.cd_cell.specs.Equality.{same_hash, same_hash-Decides}
-use Rattle.cd_cell.specs.Bags.{bag_trees, IsBag}
+use Rattle.cd_cell.specs.Bags.{root_trees, IsBag}
 use Rattle.cd_cell.specs.Export.{hash_cmp, distinct_cells, AreClashFree, IsClashFree}
 use Rattle.cd_cell.specs.Listings.{no_cell, new_cell_of, listed_at, IsValid}
 use Rattle.cd_cell.proofs.Subtrees.{Contains-first, Contains-later, Contains-cases, Contains-nil, Contains-map, Contains-mapped, well_formed-subtree, length-infos_of, IsGoodFace-face_of, flat_map-listed, subtree-itself}
 use Rattle.cd_cell.proofs.BagLaws.{well_formed-bag_trees, clash_free-bag_trees}
 use Rattle.cd_cell.proofs.ExportOrder.{AreDistinct-distinct_cells, Contains-distinct_cells}
 use Rattle.cd_update.specs.Pairing.{beside, wanted_hashes, AreOf}
-use Rattle.cd_update.specs.Indexes.{IsIndex}
-use Rattle.cd_update.proofs.VisitLaws.{IsIndex-pushed}
+use Rattle.cd_cell.specs.Indexes.{IsIndex}
+use Rattle.cd_cell.proofs.IndexLaws.{IsIndex-pushed}
 use Rattle.cd_prepare.specs.States.{IsWhole}
 use Rattle.bag_faults.specs.OldStates.{face_in, IsIndexed, state_of, IsState}
 
@@ -107,7 +107,7 @@ module _ (H : List ℕ → Hash256) where
         (well_formed-good t (λ s h. good s (Contains-append_left (subtrees t) (subtrees_of_all ts) s h)), well_formed-all ts (λ s h. good s (Contains-append_right (subtrees t) (subtrees_of_all ts) s h)))
 
   -- all cells of a bag's one tree are a state
-  pub IsState-whole : (cells : List FaceView) (refs : List (List ℕ)) (roots : List ℕ) → IsBag H cells refs roots → (t : Tree) → bag_trees cells refs roots ≡ t ∷ [] → (root : ChildInfo) (listed : List NewCell) → IsWhole H t root listed → IsState H root listed
+  pub IsState-whole : (cells : List FaceView) (refs : List (List ℕ)) (roots : List ℕ) → IsBag H cells refs roots → (t : Tree) → root_trees cells refs roots ≡ t ∷ [] → (root : ChildInfo) (listed : List NewCell) → IsWhole H t root listed → IsState H root listed
   IsState-whole cells refs roots bag t only root listed whole =
       let is : t ≡ state_of H root listed = sym whole.stands in
       let well : IsWellFormed H t = well_formed-bag_trees H cells refs roots bag t (subst (λ ts. Contains ts t) (sym only) (Contains-first t [])) in

@@ -11,7 +11,7 @@ use Rattle.cd_cell.specs.Tree.{Tree, subtrees, info_of, face_of}
 use Rattle.cd_cell.specs.Equality.{same_hash}
 use Rattle.cd_cell.specs.Export.{distinct_cells, IsClashFree}
 use Rattle.cd_cell.specs.Listings.{new_cell_of, tree_of}
-use Rattle.cd_update.specs.Indexes.{IsIndex}
+use Rattle.cd_cell.specs.Indexes.{IsIndex}
 
 -- the face of the first listed cell of a hash
 abbrev pub face_in : List NewCell → Hash256 → Option FaceView

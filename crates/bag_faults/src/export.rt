@@ -1,5 +1,5 @@
 ghost use Rattle.std.specs.Prelude.{◌≡◌, ◌<◌, ◌≤◌, length, IfOk};
-ghost use Rattle.cd_cell.specs.Bags.{bag_cell};
+ghost use Rattle.cd_cell.specs.Bags.{bag_tree};
 ghost use Rattle.cd_boc_write.specs.Exports.{bag_of};
 
 use cd_boc_write::write_bag;
@@ -11,7 +11,7 @@ use std::alloc::{AllocError, Global};
 pub fn export<H: Hash32>(alloc: Global, bag: &Bag<H>, root: u32) -> Result<Vec<u8>, AllocError>
     requires there { root < length bag.now.cells }
     requires few { length bag.now.cells ≤ 1048576 }
-    ensures { IfOk result (λ text. text.items ≡ bag_of H.digest_of (bag_cell bag.now.cells bag.now.refs root)) }
+    ensures { IfOk result (λ text. text.items ≡ bag_of H.digest_of (bag_tree bag.now root)) }
 {
     let cells = all_cells(alloc, bag, root)?;
     match write_bag(alloc, &cells) {

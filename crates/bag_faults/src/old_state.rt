@@ -44,19 +44,19 @@ fn places_of(alloc: Global, cells: &[NewCell]) -> Result<BTreeMap<Hash256, usize
 impl<H: Hash32> OldState<H> {
     /// The state that a bag has, if it has one, and unless memory runs out.
     pub fn of(alloc: Global, bag: &Bag<H>) -> Result<Result<OldState<H>, PrepareFault>, AllocError>
-        ensures state { IfOk result (λ answer. IfOk answer (λ state. bag_trees bag.now.cells bag.now.refs bag.now.roots ≡ state_of H.digest_of state.whole.root state.whole.cells ∷ [])) }
-        ensures fault { IfOk result (λ answer. IfErr answer (λ fault. state_fault H.digest_of (bag_trees bag.now.cells bag.now.refs bag.now.roots) ≡ Some fault)) }
+        ensures state { IfOk result (λ answer. IfOk answer (λ state. bag_trees bag.now ≡ state_of H.digest_of state.whole.root state.whole.cells ∷ [])) }
+        ensures fault { IfOk result (λ answer. IfErr answer (λ fault. state_fault H.digest_of (bag_trees bag.now) ≡ Some fault)) }
     {
         let whole = match prepare_zero(alloc, bag) {
             Ok(whole) => whole,
             Err(PrepareFault::Memory) => return Err(AllocError),
             Err(fault) => return Ok(Err(fault)),
         };
-        let places = places_of(alloc, whole.cells.as_slice())?;
+        let places = places_of(alloc, whole.cells())?;
         Ok(Ok(OldState {
             whole,
             places,
-            bag_cells: bag.cells.as_slice().len(),
+            bag_cells: bag.cells().len(),
         }))
     }
 
@@ -75,7 +75,7 @@ impl<H: Hash32> OldState<H> {
         ensures { MatchOption result (face_in self.now.whole.cells hash.now ≡ None) (λ face. face_in self.now.whole.cells hash.now ≡ Some face.now) }
     {
         match self.places.get(hash) {
-            Some(place) => Some(&self.whole.cells.as_slice()[*place].face),
+            Some(place) => Some(&self.whole.cells()[*place].face),
             None => None,
         }
     }

@@ -1,6 +1,6 @@
 ghost use Rattle.std.specs.Prelude.{◌≡◌, ℕ, List, ◌∷◌, [], Ok, IfOk, IfSome, IfNone, IsErr};
 ghost use Rattle.hex.specs.Hex.{decode_of};
-ghost use Rattle.cd_cell.specs.Bags.{bag_cell};
+ghost use Rattle.cd_cell.specs.Bags.{bag_tree};
 ghost use Rattle.cd_boc_read.specs.Grammar.{Spells};
 ghost use Rattle.cd_update.specs.Pairing.{wanted_hashes};
 ghost use Rattle.cd_prepare.specs.States.{Answers};
@@ -41,12 +41,12 @@ fn prepare<H: Hash32>(
     update: &Update<'_, H>,
     wanted: &[Hash256],
 ) -> Result<Prepared<H>, PrepareFault>
-    requires { wanted.now ≡ wanted_hashes H.digest_of (bag_cell update.now.bag.now.cells update.now.bag.now.refs update.now.root) }
-    ensures exact { Answers (update_fault H.digest_of (bag_cell update.now.bag.now.cells update.now.bag.now.refs update.now.root) (state_of H.digest_of state.now.whole.root state.now.whole.cells)) result }
-    ensures applied { IfOk result (λ value. IsApplied H.digest_of (bag_cell update.now.bag.now.cells update.now.bag.now.refs update.now.root) (state_of H.digest_of state.now.whole.root state.now.whole.cells) value.root value.cells) }
+    requires { wanted.now ≡ wanted_hashes H.digest_of (bag_tree update.now.bag.now update.now.root) }
+    ensures exact { Answers (update_fault H.digest_of (bag_tree update.now.bag.now update.now.root) (state_of H.digest_of state.now.whole.root state.now.whole.cells)) result }
+    ensures applied { IfOk result (λ value. IsApplied H.digest_of (bag_tree update.now.bag.now update.now.root) (state_of H.digest_of state.now.whole.root state.now.whole.cells) value.root value.cells) }
 {
     match state.faces(alloc, wanted) {
-        Ok(faces) => prepare_update(alloc, update, &state.whole.root, &faces),
+        Ok(faces) => prepare_update(alloc, update, state.whole.root(), &faces),
         Err(_) => Err(PrepareFault::Memory),
     }
 }
@@ -57,7 +57,7 @@ fn prepared_verdict<H: Hash32>(
     state: &OldState<H>,
     update: &Update<'_, H>,
 ) -> Result<UpdateVerdict, AllocError>
-    ensures { (bytes : List ℕ) → Spells H.digest_of bytes (bag_cell update.now.bag.now.cells update.now.bag.now.refs update.now.root ∷ []) → IfOk result (IsTrueOver H.digest_of (state_of H.digest_of state.now.whole.root state.now.whole.cells) bytes) }
+    ensures { (bytes : List ℕ) → Spells H.digest_of bytes (bag_tree update.now.bag.now update.now.root ∷ []) → IfOk result (IsTrueOver H.digest_of (state_of H.digest_of state.now.whole.root state.now.whole.cells) bytes) }
 {
     let Ok(wanted) = update.wanted(alloc) else {
         return Err(AllocError);
@@ -65,8 +65,8 @@ fn prepared_verdict<H: Hash32>(
     match prepare(alloc, state, update, &wanted) {
         Ok(value) => Ok(UpdateVerdict::Good {
             shown: wanted.len(),
-            new: value.cells.as_slice().len(),
-            root: value.root.rep(),
+            new: value.cells().len(),
+            root: value.root().rep(),
         }),
         Err(PrepareFault::Memory) => Err(AllocError),
         Err(fault) => Ok(UpdateVerdict::Refused(Refusal::Prepare(fault))),

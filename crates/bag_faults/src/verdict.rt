@@ -28,8 +28,8 @@ pub fn verdict_of<H: Hash32>(alloc: Global, bytes: &[u8]) -> Result<Verdict, All
 {
     match read_bag::<H>(alloc, bytes) {
         Ok(bag) => Ok(Verdict::Good {
-            roots: bag.roots.as_slice().len(),
-            cells: bag.cells.as_slice().len(),
+            roots: bag.roots().len(),
+            cells: bag.cells().len(),
         }),
         Err(BagFault::Memory) => Err(AllocError),
         Err(fault) => Ok(Verdict::Refused(fault)),
@@ -58,11 +58,11 @@ pub fn export_of<H: Hash32>(
     ensures said { IfOk result (λ answer. IfErr answer (IsTrueOf H.digest_of bytes.now)) }
 {
     match read_bag::<H>(alloc, bytes) {
-        Ok(bag) => match bag.roots.as_slice() {
+        Ok(bag) => match bag.roots() {
             [root] => Ok(Ok(export(alloc, &bag, *root)?)),
             roots => Ok(Err(Verdict::Good {
                 roots: roots.len(),
-                cells: bag.cells.as_slice().len(),
+                cells: bag.cells().len(),
             })),
         },
         Err(BagFault::Memory) => Err(AllocError),

@@ -37,7 +37,9 @@ impl<H: Hash32> Bag<H> {
     /// Takes no memory: a reader has filled the lists.
     pub fn new(cells: Vec<Face>, refs: Vec<[u32; 4]>, roots: Vec<u32>) -> Bag<H>
         requires { IsBag H.digest_of cells.items refs.items roots.items }
-        ensures { result ≡ record { cells = cells.items; refs = refs.items; roots = roots.items } }
+        ensures cells { result.cells ≡ cells.items }
+        ensures refs { result.refs ≡ refs.items }
+        ensures roots { result.roots ≡ roots.items }
     {
         Bag {
             cells,

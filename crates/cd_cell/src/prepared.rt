@@ -31,7 +31,9 @@ impl<H: Hash32> Prepared<H> {
     /// Takes no memory: a preparer has made the list.
     pub fn new(old: Option<Hash256>, root: ChildInfo, cells: Vec<NewCell>) -> Prepared<H>
         requires { IsValid H.digest_of root cells.items }
-        ensures { result ≡ record { old = old; root = root; cells = cells.items } }
+        ensures old { result.old ≡ old }
+        ensures root { result.root ≡ root }
+        ensures cells { result.cells ≡ cells.items }
     {
         Prepared {
             old,

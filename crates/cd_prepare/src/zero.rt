@@ -2,7 +2,7 @@ ghost use Rattle.std.specs.Prelude.{◌≡◌, ◌<◌, ◌≤◌, [], ◌∷◌
 ghost use Rattle.cd_cell.specs.GoodFace.{IsGoodFace};
 ghost use Rattle.cd_cell.specs.Tree.{Tree};
 ghost use Rattle.cd_cell.specs.Bags.{bag_tree, bag_trees};
-ghost use Rattle.cd_cell.specs.Export.{distinct_cells};
+ghost use Rattle.cd_cell.specs.Export.{distinct_cells, AreClashFree};
 ghost use Rattle.cd_cell.specs.Listings.{new_cell_of};
 ghost use Rattle.cd_prepare.specs.States.{state_fault, Answers, IsWhole};
 
@@ -42,6 +42,7 @@ fn cells_below<H: Hash32>(alloc: Global, root: &Start<'_, H>) -> Result<Vec<NewC
 /// The prepared value of a state that a bag has whole: all its cells are new. Nothing is hashed but the root.
 pub fn prepare_zero<H: Hash32>(alloc: Global, bag: &Bag<H>) -> Result<Prepared<H>, PrepareFault>
     ensures exact { Answers (state_fault H.digest_of (bag_trees bag.now)) result }
+    ensures clear { IfOk result (λ _. AreClashFree H.digest_of (bag_trees bag.now)) }
     ensures old { IfOk result (λ value. value.old ≡ None) }
     ensures few { IfOk result (λ value. length value.cells ≤ length bag.now.cells) }
     ensures whole { IfOk result (λ value. (state : Tree) → bag_trees bag.now ≡ state ∷ [] → IsWhole H.digest_of state value.root value.cells) }

@@ -11,9 +11,9 @@ use Rattle.cd_cell.specs.declared.cell_fault.CellFault.{CellFault}
 use Rattle.cd_cell.specs.BitText.{is_odd, data_of}
 use Rattle.cd_cell.specs.FaceView.{FaceView}
 use Rattle.cd_cell.specs.Levels.{mask_of_face, descriptor1, descriptor2}
-use Rattle.cd_cell.specs.CellFaults.{fault_of}
+use Rattle.cd_cell.specs.CellFaults.{face_fault}
 use Rattle.cd_cell.specs.Steady.{IsSteady}
-use Rattle.cd_cell.proofs.FitLemmas.{fault_of-fit, fit_from_no_fault}
+use Rattle.cd_cell.proofs.FitLemmas.{face_fault-fit, fit_from_no_fault}
 use Rattle.cd_record.specs.declared.record.Record.{Record}
 use Rattle.cd_record.specs.declared.record_fault.RecordFault.{RecordFault}
 use Rattle.cd_record.specs.declared.record_fault.RecordFault.TheVariants.{Extra, Form}
@@ -61,7 +61,7 @@ judged-good count mask f (Some fault) e is = absurd cc
 
 joined-read : (count d : ℕ) (bits : List Bool) (kids : List ChildInfo) → 1 ≤ count → count < 2 ^ 32 → is_odd (d / 16) ≡ false → d % 8 ≡ length kids → length kids ≤ 4 → length bits ≤ 1023
     → AllByRecursion IsSteady kids → AllByRecursion IsInfo kids
-    → record_in (joined count d bits kids) ≡ judged count (d / 32) (record { exotic = is_odd (d / 8); bits = bits; kids = kids }) (fault_of (record { exotic = is_odd (d / 8); bits = bits; kids = kids }))
+    → record_in (joined count d bits kids) ≡ judged count (d / 32) (record { exotic = is_odd (d / 8); bits = bits; kids = kids }) (face_fault (record { exotic = is_odd (d / 8); bits = bits; kids = kids }))
 unfolding record_in joined
 joined-read count d bits kids some few stored refs four short steady infos =
     let last : kids_at (length kids) (flat_map kid_text kids) ≡ Ok (kids, []) = ap (kids_at (length kids)) (sym (append-nil (flat_map kid_text kids))) ∙ kids_again kids [] steady infos in
@@ -83,9 +83,9 @@ record_again r fit =
     let with_flag : Bool → FaceView = λ e. record { exotic = e; bits = f.bits; kids = f.kids } in
     ap record_in (text_is r.count f)
     ∙ joined-read r.count d f.bits f.kids fit.some fit.few tells.not_stored tells.refs fit.face.kids fit.face.bits fit.steady fit.infos
-    ∙ ap (λ m. judged r.count m (with_flag (is_odd (d / 8))) (fault_of (with_flag (is_odd (d / 8))))) tells.mask_is
-    ∙ ap (λ e. judged r.count mask (with_flag e) (fault_of (with_flag e))) tells.flag
-    ∙ judged-good r.count mask f (fault_of f) (fault_of-fit f fit.face.fit) refl
+    ∙ ap (λ m. judged r.count m (with_flag (is_odd (d / 8))) (face_fault (with_flag (is_odd (d / 8))))) tells.mask_is
+    ∙ ap (λ e. judged r.count mask (with_flag e) (face_fault (with_flag e))) tells.flag
+    ∙ judged-good r.count mask f (face_fault f) (face_fault-fit f fit.face.fit) refl
 
 -- ---- what is read is spelled so
 
@@ -110,7 +110,7 @@ record_takes bytes r fits e =
     by_ok (bits_at d.1) _ r k2 (λ bits e3 k3.
     by_ok (kids_at (d.0 % 8) bits.1) _ r k3 (λ kids e4 k4.
     let face : FaceView = record { exotic = is_odd (d.0 / 8); bits = bits.0; kids = kids.0 } in
-    let g = ended (eqb (length kids.1) 0) (judged count.0 (d.0 / 32) face (fault_of face)) r k4 in
+    let g = ended (eqb (length kids.1) 0) (judged count.0 (d.0 / 32) face (face_fault face)) r k4 in
     let t0 = version_takes bytes front fits e0 in
     let t1 = count_takes front count t0.rest_fits e1 in
     let t2 = descriptor_takes count.1 d t1.0.rest_fits e2 in
@@ -118,7 +118,7 @@ record_takes bytes r fits e =
     let t4 = kids_take (d.0 % 8) bits.1 kids t3.0.rest_fits e4 in
     let nothing : kids.1 ≡ [] = nil_from_length kids.1 (eqb-true _ _ g.0) in
     let last : bits.1 ≡ flat_map kid_text kids.0 = t4.taken.parts ∙ ap (λ (x : List ℕ). flat_map kid_text kids.0 ++ x) nothing ∙ append-nil (flat_map kid_text kids.0) in
-    let judgement = judged-takes count.0 (d.0 / 32) face (fault_of face) r g.1 in
+    let judgement = judged-takes count.0 (d.0 / 32) face (face_fault face) r g.1 in
     let described : d.0 ≡ descriptor1 face (mask_of_face face) =
     sym (descriptor-is d.0 (is_odd (d.0 / 8)) refl t2.1)
     ∙ ap (λ n. n + (if is_odd (d.0 / 8) then 8 else 0) + 32 * (d.0 / 32)) (sym t4.counted)

@@ -8,7 +8,7 @@ use Rattle.cd_cell.specs.Masks.{lowest_bits, bit_count}
 use Rattle.cd_cell.specs.BitText.{is_odd, data_bits}
 use Rattle.cd_cell.specs.FaceView.{FaceView}
 use Rattle.cd_cell.specs.Levels.{mask_of_face}
-use Rattle.cd_cell.specs.CellFaults.{fault_of}
+use Rattle.cd_cell.specs.CellFaults.{face_fault}
 use Rattle.cd_record.specs.declared.record.Record.{Record}
 use Rattle.cd_record.specs.declared.record_fault.RecordFault.{RecordFault}
 use Rattle.cd_record.specs.declared.record_fault.RecordFault.TheVariants.{Version, Cut, Extra, Form, Cell}
@@ -109,7 +109,7 @@ record_in bytes = do
   kids ← kids_at (descriptor.0 % 8) bits.1
   if length kids.1 == 0
       then (let face : FaceView = record { exotic = is_odd (descriptor.0 / 8); bits = bits.0; kids = kids.0 } in
-      judged count.0 (descriptor.0 / 32) face (fault_of face))
+      judged count.0 (descriptor.0 / 32) face (face_fault face))
       else Err Extra
 
 -- What a call answered, seen by view, is what reading gives.

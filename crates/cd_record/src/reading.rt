@@ -1,5 +1,5 @@
 ghost use Rattle.std.specs.Prelude.{◌≡◌, ℕ, ◌+◌, ◌*◌, ◌%◌, ◌≤◌, ◌<◌, length, take, IfOk};
-ghost use Rattle.cd_cell.specs.CellFaults.{fault_of};
+ghost use Rattle.cd_cell.specs.CellFaults.{face_fault};
 ghost use Rattle.cd_cell.specs.Masks.{bit_count};
 ghost use Rattle.cd_record.specs.declared.record.Record.{Record};
 ghost use Rattle.cd_record.specs.RecordText.{record_text};
@@ -175,7 +175,7 @@ fn kids_at(count: u8, bytes: &[u8]) -> Result<([ChildInfo; 4], &[u8]), RecordFau
 
 /// A record, unless its face is at fault or another mask is stated.
 fn judged(count: u32, mask: u8, face: Face) -> Result<Record, RecordFault>
-    ensures { Gives (λ found. found) result (spec.judged count mask face (fault_of face)) }
+    ensures { Gives (λ found. found) result (spec.judged count mask face (face_fault face)) }
 {
     if let Err(fault) = face.check() {
         return Err(RecordFault::Cell { fault });

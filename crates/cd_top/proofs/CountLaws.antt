@@ -13,8 +13,8 @@ use Rattle.cd_cell.specs.CellFaults.{no_info}
 use Rattle.cd_cell.specs.Equality.{same_info, same_info-Decides}
 use Rattle.cd_cell.specs.Export.{hash_cmp}
 use Rattle.cd_cell.specs.Listings.{listed_at, IsValid, info_of_new}
-use Rattle.cd_boc_read.specs.Clashes.{Key}
-use Rattle.cd_boc_read.proofs.ClashLaws.{list_any-Contains}
+use Rattle.cd_cell.specs.ClashSearch.{NumberedHash}
+use Rattle.cd_cell.proofs.ListTests.{list_any-Contains}
 use Rattle.cd_top.specs.Order.{hash_in, has_bytes, places_in, references, AreCounts}
 use Rattle.cd_top.proofs.OrderLaws.{one-place}
 
@@ -35,12 +35,12 @@ has-other hash kid other = by (has_bytes hash.0 kid) refl
         absurd (other (λ i. record { 0 = sym bytes i }))
 
 -- the first children are counted, each under its own hash
-pub record TalliedTo (order : List Key) (kids : List ChildInfo) (start counts : List ℕ) (n : ℕ) : Type 0 where
+pub record TalliedTo (order : List NumberedHash) (kids : List ChildInfo) (start counts : List ℕ) (n : ℕ) : Type 0 where
   pub long : length counts ≡ length order
   pub counted : (k : ℕ) → k < length order → get_or counts k 0 ≡ get_or start k 0 + count_by (has_bytes (hash_in order k).0) (take n kids)
   pub few : (k : ℕ) → get_or counts k 0 ≤ get_or start k 0 + n
 
-module _ (order : List Key) (rising : AllPairs (λ a b. hash_cmp a.0 b.0 ≡ Less) order) (kids : List ChildInfo) (start : List ℕ) where
+module _ (order : List NumberedHash) (rising : AllPairs (λ a b. hash_cmp a.0 b.0 ≡ Less) order) (kids : List ChildInfo) (start : List ℕ) where
   more : (k n : ℕ) → n < length kids
       → count_by (has_bytes (hash_in order k).0) (take (n + 1) kids) ≡ count_by (has_bytes (hash_in order k).0) (take n kids) + cond (has_bytes (hash_in order k).0 (get_or kids n no_info)) 1 0
   more k n in' = sum_by_more (λ kid. cond (has_bytes (hash_in order k).0 kid) 1 0) kids n no_info in'
@@ -86,13 +86,13 @@ module _ (order : List Key) (rising : AllPairs (λ a b. hash_cmp a.0 b.0 ≡ Les
 -- ---- the root, and the children of all cells
 
 -- the root and the children of the first cells are counted
-pub record CountedTo (root : ChildInfo) (cells : List NewCell) (order : List Key) (counts : List ℕ) (n : ℕ) : Type 0 where
+pub record CountedTo (root : ChildInfo) (cells : List NewCell) (order : List NumberedHash) (counts : List ℕ) (n : ℕ) : Type 0 where
   pub long : length counts ≡ length order
   pub counted : (k : ℕ) → k < length order
       → get_or counts k 0 ≡ cond {A = ℕ} (has_bytes (hash_in order k).0 root) 1 0 + sum_by (λ c. places_in (hash_in order k).0 c.face) (take n cells)
   pub few : (k : ℕ) → get_or counts k 0 ≤ 1 + 4 * n
 
-module _ (root : ChildInfo) (cells : List NewCell) (order : List Key) where
+module _ (root : ChildInfo) (cells : List NewCell) (order : List NumberedHash) where
   zeros-at : (n k : ℕ) → get_or {A = ℕ} (replicate n 0) k 0 ≡ 0
   zeros-at n k = ⊎_elim (λ l. get_or-replicate n k 0 0 l) (λ l. get_or_past (replicate {A = ℕ} n 0) k 0 (omega (arith, l, length-replicate {A = ℕ} n 0))) (cases_lt k n)
 

@@ -18,8 +18,8 @@ use Rattle.cd_cell.specs.Infos.{no_hash}
 use Rattle.cd_cell.specs.Export.{hash_cmp}
 use Rattle.cd_cell.specs.Listings.{no_cell, listed_at}
 use Rattle.cd_cell.proofs.ExportOrder.{hash_cmp-total, hash_cmp-ties}
-use Rattle.cd_boc_read.specs.Clashes.{Key, keys_from}
-use Rattle.cd_boc_read.proofs.HashKeys.{keys_from-at, length-keys_from, key_cmp, hashes-sorted}
+use Rattle.cd_cell.specs.ClashSearch.{NumberedHash, numbered_from}
+use Rattle.cd_cell.proofs.NumberedHashes.{numbered_from-at, length-numbered_from, numbered_cmp, hashes-sorted}
 use Rattle.cd_top.specs.Order.{IsOrder, hash_in}
 
 abbrev pub new_hash : NewCell → Hash256
@@ -30,29 +30,29 @@ abbrev pub HaveOwnHashes : List NewCell → Type 0
 HaveOwnHashes cells = (i j : ℕ) → i < length cells → j < length cells → (listed_at cells i).hash ≡ (listed_at cells j).hash → i ≡ j
 
 -- cells of different hashes, sorted by their hashes and places
-pub sorted-order : (cells : List NewCell) (order : List Key) → HaveOwnHashes cells
-    → IsPermutation (keys_from new_hash 0 cells) order → IsSorted key_cmp order → IsOrder cells order
+pub sorted-order : (cells : List NewCell) (order : List NumberedHash) → HaveOwnHashes cells
+    → IsPermutation (numbered_from new_hash 0 cells) order → IsSorted numbered_cmp order → IsOrder cells order
 sorted-order cells order distinct moved sorted = record { permuted = moved; rising = rising }
   where
-    apart-listed : (i j : ℕ) (d : Key) → i < j → j < length (keys_from new_hash 0 cells) → same_hash (get_or (keys_from new_hash 0 cells) i d).0 (get_or (keys_from new_hash 0 cells) j d).0 ≡ false
+    apart-listed : (i j : ℕ) (d : NumberedHash) → i < j → j < length (numbered_from new_hash 0 cells) → same_hash (get_or (numbered_from new_hash 0 cells) i d).0 (get_or (numbered_from new_hash 0 cells) j d).0 ≡ false
     apart-listed i j d before in' =
-        let long = length-keys_from new_hash 0 cells in
+        let long = length-numbered_from new_hash 0 cells in
         let in-i : i < length cells = omega arith in
         let in-j : j < length cells = omega arith in
-        let hash-i = ap (λ (p : Key). p.0) (keys_from-at new_hash no_cell 0 cells i i d (omega arith) in-i) in
-        let hash-j = ap (λ (p : Key). p.0) (keys_from-at new_hash no_cell 0 cells j j d (omega arith) in-j) in
-        by (same_hash (get_or (keys_from new_hash 0 cells) i d).0 (get_or (keys_from new_hash 0 cells) j d).0) refl in-i in-j hash-i hash-j
+        let hash-i = ap (λ (p : NumberedHash). p.0) (numbered_from-at new_hash no_cell 0 cells i i d (omega arith) in-i) in
+        let hash-j = ap (λ (p : NumberedHash). p.0) (numbered_from-at new_hash no_cell 0 cells j j d (omega arith) in-j) in
+        by (same_hash (get_or (numbered_from new_hash 0 cells) i d).0 (get_or (numbered_from new_hash 0 cells) j d).0) refl in-i in-j hash-i hash-j
       where
-        by : (b : Bool) → same_hash (get_or (keys_from new_hash 0 cells) i d).0 (get_or (keys_from new_hash 0 cells) j d).0 ≡ b → i < length cells → j < length cells
-            → (get_or (keys_from new_hash 0 cells) i d).0 ≡ (listed_at cells i).hash → (get_or (keys_from new_hash 0 cells) j d).0 ≡ (listed_at cells j).hash → b ≡ false
+        by : (b : Bool) → same_hash (get_or (numbered_from new_hash 0 cells) i d).0 (get_or (numbered_from new_hash 0 cells) j d).0 ≡ b → i < length cells → j < length cells
+            → (get_or (numbered_from new_hash 0 cells) i d).0 ≡ (listed_at cells i).hash → (get_or (numbered_from new_hash 0 cells) j d).0 ≡ (listed_at cells j).hash → b ≡ false
         by false e in-i in-j hash-i hash-j = refl
         by true e in-i in-j hash-i hash-j =
-            let one : i ≡ j = distinct i j in-i in-j (sym hash-i ∙ (same_hash-Decides (get_or (keys_from new_hash 0 cells) i d).0 (get_or (keys_from new_hash 0 cells) j d).0).0 e ∙ hash-j) in absurd (omega arith)
+            let one : i ≡ j = distinct i j in-i in-j (sym hash-i ∙ (same_hash-Decides (get_or (numbered_from new_hash 0 cells) i d).0 (get_or (numbered_from new_hash 0 cells) j d).0).0 e ∙ hash-j) in absurd (omega arith)
 
     distinct-order : IsDistinct (λ a b. same_hash a.0 b.0) order
     distinct-order =
-        IsDistinct-IsPermutation (λ a b. same_hash a.0 b.0) (λ a b. (decided same_hash same_hash-Decides).symm a.0 b.0) (keys_from new_hash 0 cells) order moved
-        (IsDistinct-from_apart (λ a b. same_hash a.0 b.0) (keys_from new_hash 0 cells) apart-listed)
+        IsDistinct-IsPermutation (λ a b. same_hash a.0 b.0) (λ a b. (decided same_hash same_hash-Decides).symm a.0 b.0) (numbered_from new_hash 0 cells) order moved
+        (IsDistinct-from_apart (λ a b. same_hash a.0 b.0) (numbered_from new_hash 0 cells) apart-listed)
 
     rising : AllPairs (λ a b. hash_cmp a.0 b.0 ≡ Less) order
     rising i j d before in' = by (hash_cmp (get_or order i d).0 (get_or order j d).0) refl
@@ -65,22 +65,22 @@ sorted-order cells order distinct moved sorted = record { permuted = moved; risi
             absurd (true≢false (sym (ap is_lt back) ∙ hashes-sorted order sorted i j d (omega arith) in'))
 
 -- the first cell's, and so on
-pub all-placed : (cells : List NewCell) (order made : List Key) (n : ℕ) → length cells ≤ n → made ≡ keys_from new_hash 0 (take n cells) → IsPermutation made order → IsPermutation (keys_from new_hash 0 cells) order
-all-placed cells order made n end is moved = subst (λ xs. IsPermutation xs order) (is ∙ ap (keys_from new_hash 0) (take_all n cells end)) moved
+pub all-placed : (cells : List NewCell) (order made : List NumberedHash) (n : ℕ) → length cells ≤ n → made ≡ numbered_from new_hash 0 (take n cells) → IsPermutation made order → IsPermutation (numbered_from new_hash 0 cells) order
+all-placed cells order made n end is moved = subst (λ xs. IsPermutation xs order) (is ∙ ap (numbered_from new_hash 0) (take_all n cells end)) moved
 
-module _ (cells : List NewCell) (order : List Key) (is : IsOrder cells order) where
+module _ (cells : List NewCell) (order : List NumberedHash) (is : IsOrder cells order) where
   -- an element is a listed cell's hash with its place
-  pub placed-in : (p : Key) → Contains order p → (p.1 < length cells) × ((listed_at cells p.1).hash ≡ p.0)
+  pub placed-in : (p : NumberedHash) → Contains order p → (p.1 < length cells) × ((listed_at cells p.1).hash ≡ p.0)
   placed-in p in' =
-      let old = Contains-permutation order (keys_from new_hash 0 cells) p (IsPermutation-sym (keys_from new_hash 0 cells) order is.permuted) in' in
-      let inside : old.0 < length cells = omega (arith, old.1, length-keys_from new_hash 0 cells) in
-      let at : p ≡ ((listed_at cells old.0).hash, old.0) = sym old.2 ∙ keys_from-at new_hash no_cell 0 cells old.0 old.0 p (omega arith) inside in
-      let place : p.1 ≡ old.0 = ap (λ (q : Key). q.1) at in
-      (omega (arith, inside, place), ap (λ n. (listed_at cells n).hash) place ∙ sym (ap (λ (q : Key). q.0) at))
+      let old = Contains-permutation order (numbered_from new_hash 0 cells) p (IsPermutation-sym (numbered_from new_hash 0 cells) order is.permuted) in' in
+      let inside : old.0 < length cells = omega (arith, old.1, length-numbered_from new_hash 0 cells) in
+      let at : p ≡ ((listed_at cells old.0).hash, old.0) = sym old.2 ∙ numbered_from-at new_hash no_cell 0 cells old.0 old.0 p (omega arith) inside in
+      let place : p.1 ≡ old.0 = ap (λ (q : NumberedHash). q.1) at in
+      (omega (arith, inside, place), ap (λ n. (listed_at cells n).hash) place ∙ sym (ap (λ (q : NumberedHash). q.0) at))
 
 -- ---- searched
 
-module _ (order : List Key) (rising : AllPairs (λ a b. hash_cmp a.0 b.0 ≡ Less) order) where
+module _ (order : List NumberedHash) (rising : AllPairs (λ a b. hash_cmp a.0 b.0 ≡ Less) order) where
   -- the answers of a search rise
   pub searchable : (hash : Hash256) → IsNonDecreasingBy (λ y. ordering_index (hash_cmp y.0 hash)) order
   searchable hash = searchable_from_sorted hash_cmp-total (λ p. p.0) order hash sorted

@@ -28,7 +28,7 @@ use Rattle.cd_cell.proofs.Distinct.{Rises, rises-from_AllPairs}
 use Rattle.cd_cell.proofs.ExportOrder.{AreDistinct-distinct_cells, Contains-distinct_cells, same_rep}
 use Rattle.cd_keeper.specs.NoKeyTwice.{same_key}
 use Rattle.cd_record.specs.RecordText.{record_text}
-use Rattle.cd_boc_read.specs.Clashes.{Key, keys_from}
+use Rattle.cd_cell.specs.ClashSearch.{NumberedHash, numbered_from}
 use Rattle.cd_boc_read.specs.Grammar.{Spells}
 use Rattle.cd_prepare.specs.declared.prepare_fault.PrepareFault.{PrepareFault}
 use Rattle.cd_prepare.specs.declared.prepare_fault.PrepareFault.TheVariants as prepare
@@ -67,26 +67,26 @@ sums-agree f g (x ∷ xs) n agree = ap (λ m. fold (λ a y. a + f y) (n + m) xs)
 -- ---- no record is put twice
 
 module _ (root : ChildInfo) (cells : List NewCell) where
-  keys-below : (hash : Hash256) (order : List Key) → ((p : Key) → Contains order p → hash_cmp hash p.0 ≡ Less)
+  keys-below : (hash : Hash256) (order : List NumberedHash) → ((p : NumberedHash) → Contains order p → hash_cmp hash p.0 ≡ Less)
       → AllByRecursion (λ k. slice_cmp nat_cmp hash.0 k ≡ Less) (keys_of (map (record_put root cells) order))
   keys-below hash [] below = tt
   keys-below hash (p ∷ order) below = (below p (Contains-first p order), keys-below hash order (λ q in'. below q (Contains-later p order q in')))
 
-  keys-rise : (order : List Key) → Rises (λ a b. hash_cmp a.0 b.0) order → IsStrictlySortedBy (slice_cmp nat_cmp) (keys_of (map (record_put root cells) order))
+  keys-rise : (order : List NumberedHash) → Rises (λ a b. hash_cmp a.0 b.0) order → IsStrictlySortedBy (slice_cmp nat_cmp) (keys_of (map (record_put root cells) order))
   unfolding IsStrictlySortedBy
   keys-rise [] up = tt
   keys-rise (p ∷ order) up = (keys-below p.0 order up.0, keys-rise order up.1)
 
-  pub puts-distinct : (order : List Key) → IsOrder cells order → IsDistinct same_key (keys_of (map (record_put root cells) order))
+  pub puts-distinct : (order : List NumberedHash) → IsOrder cells order → IsDistinct same_key (keys_of (map (record_put root cells) order))
   puts-distinct order is = IsDistinct-from_sorted (slice_cmp nat_cmp) (keys_of (map (record_put root cells) order)) (keys-rise order (rises-from_AllPairs (λ a b. hash_cmp a.0 b.0) order is.rising))
 
 -- ---- the listed cells of a state
 
-module _ (H : List ℕ → Hash256) (state : Tree) (clear : IsClashFree H state) (root : ChildInfo) (cells : List NewCell) (whole : IsWhole H state root cells) (order : List Key) (is : IsOrder cells order) where
+module _ (H : List ℕ → Hash256) (state : Tree) (clear : IsClashFree H state) (root : ChildInfo) (cells : List NewCell) (whole : IsWhole H state root cells) (order : List NumberedHash) (is : IsOrder cells order) where
   abbrev all_cells : List Tree
   all_cells = distinct_cells H state
 
-  abbrev tree_in : Key → Tree
+  abbrev tree_in : NumberedHash → Tree
   tree_in p = get_or all_cells p.1 no_tree
 
   abbrev trees : List Tree
@@ -98,16 +98,16 @@ module _ (H : List ℕ → Hash256) (state : Tree) (clear : IsClashFree H state)
   cell-at : (k : ℕ) → k < length cells → listed_at cells k ≡ new_cell_of H (get_or all_cells k no_tree)
   cell-at k in' = ap (λ cs. listed_at cs k) whole.cells_are ∙ get_or-map (new_cell_of H) all_cells k no_tree no_cell (omega (arith, in', long))
 
-  trees-placed : (i : ℕ) (cs : List NewCell) → i + length cs ≡ length all_cells → map tree_in (keys_from new_hash i cs) ≡ drop i all_cells
+  trees-placed : (i : ℕ) (cs : List NewCell) → i + length cs ≡ length all_cells → map tree_in (numbered_from new_hash i cs) ≡ drop i all_cells
   trees-placed i [] at = sym (drop_all i all_cells (omega arith))
   trees-placed i (c ∷ cs) at =
       ap (λ ts. get_or all_cells i no_tree ∷ ts) (trees-placed (i + 1) cs (omega arith))
       ∙ sym (drop-cons all_cells i no_tree (omega arith) ∙ ap (λ n. get_or all_cells i no_tree ∷ drop n all_cells) (sym (add-one i)))
 
   permuted : IsPermutation all_cells trees
-  permuted = subst (λ ts. IsPermutation ts trees) (trees-placed 0 cells (omega (arith, long))) (IsPermutation-map tree_in (keys_from new_hash 0 cells) order is.permuted)
+  permuted = subst (λ ts. IsPermutation ts trees) (trees-placed 0 cells (omega (arith, long))) (IsPermutation-map tree_in (numbered_from new_hash 0 cells) order is.permuted)
 
-  rep-in : (p : Key) → Contains order p → rep_of H (tree_in p) ≡ p.0
+  rep-in : (p : NumberedHash) → Contains order p → rep_of H (tree_in p) ≡ p.0
   rep-in p in' = let placed = placed-in cells order is p in' in ap (λ (n : NewCell). n.hash) (sym (cell-at p.1 placed.0)) ∙ placed.1
 
   are : AreCellsOf H state trees
@@ -150,7 +150,7 @@ module _ (H : List ℕ → Hash256) (state : Tree) (clear : IsClashFree H state)
         ∙ sym (map-map (record_entry H only) (λ t. (rep_bytes H t, t)) trees)
         ∙ sym (ap (map (record_entry H only)) (entries-held H block trees one are))
       where
-        agree : (p : Key) → Contains order p → record_put root cells p ≡ record_entry H only (rep_bytes H (tree_in p), tree_in p)
+        agree : (p : NumberedHash) → Contains order p → record_put root cells p ≡ record_entry H only (rep_bytes H (tree_in p), tree_in p)
         agree p in' =
             let key : (let hash = p.0 in hash.0) ≡ rep_bytes H (tree_in p) = ap (λ (h : Hash256). h.0) (sym (rep-in p in')) in
             let count = sym (count-is p.0) ∙ ap (world.count_of H only) key in

@@ -42,10 +42,10 @@ pub fn count_references<H: Hash32>(
     ensures { IfOk result (λ counts. AreCounts value.now.root value.now.cells order.now counts.items) }
 {
     let mut counts = zeros(alloc, order.len())?;
-    if let Some(at) = position(order, &value.root.rep()) {
+    if let Some(at) = position(order, &value.root().rep()) {
         counts[at] = 1;
     }
-    for cell in value.cells.as_slice() {
+    for cell in value.cells() {
         tally(order, &cell.face, &mut counts);
     }
     Ok(counts)

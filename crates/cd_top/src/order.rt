@@ -15,7 +15,7 @@ pub fn by_hash<H: Hash32>(
     requires few { length value.now.cells < 2 ^ 32 }
     ensures { IfOk result (λ order. IsOrder value.now.cells order.items) }
 {
-    let cells = value.cells.as_slice();
+    let cells = value.cells();
     let mut order = Vec::with_capacity(alloc, cells.len())?;
     for (place, cell) in cells.iter().enumerate() {
         order.push((cell.hash, place as u32))?;

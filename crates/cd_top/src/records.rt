@@ -18,7 +18,7 @@ pub fn records_of<H: Hash32>(
     requires counts { AreCounts value.now.root value.now.cells order.now counts.now }
     ensures { IfOk result (λ puts. entries_of hash_bytes puts.items ≡ map (record_put value.now.root value.now.cells) order.now) }
 {
-    let cells = value.cells.as_slice();
+    let cells = value.cells();
     let mut puts = Vec::with_capacity(alloc, order.len())?;
     for (at, placed) in order.iter().enumerate() {
         let face = &cells[placed.1 as usize].face;

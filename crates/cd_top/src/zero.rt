@@ -102,8 +102,8 @@ pub fn plan_zero<H: Hash32>(alloc: Global, value: &Prepared<H>) -> Result<Plan, 
     let order = by_hash(alloc, value)?;
     let counts = count_references(alloc, value, &order)?;
     let puts = records_of(alloc, value, &order, &counts)?;
-    let id = id_of(value.root.rep());
+    let id = id_of(value.root().rep());
     let text = printed(alloc, &id, order.len())?;
-    let batch = batch_of(alloc, puts, id, value.root.height())?;
+    let batch = batch_of(alloc, puts, id, value.root().height())?;
     Ok(Plan { batch, text })
 }

@@ -6,7 +6,6 @@ use Rattle.cd_base.specs.declared.hash.Hash256.{Hash256}
 use Rattle.cd_cell.specs.declared.info.ChildInfo.{ChildInfo}
 use Rattle.cd_cell.specs.FaceView.{FaceView}
 use Rattle.cd_cell.specs.Levels.{info_of_face}
-use Rattle.cd_cell.specs.BagView.{BagView}
 use Rattle.cd_cell.specs.Bags.{bag_trees, root_trees}
 use Rattle.cd_cell.specs.Unfolding.{Entry, faces_from, infos_from}
 use Rattle.cd_cell.proofs.Unfoldings.{infos_from-faces}
@@ -111,7 +110,9 @@ returns-clause-found g c =
     let clear : clash_of H cells ≡ None = ap (clash_of H) (sym c.deref-2.ensures.value) ∙ clash_of-found H c.deref-2.result.now c.deref-3.result.now c.in-Ok-None.field-0 shown c.in-Ok-None.ensures ∙ c.in-Ok-None.field-0-is in
     let refs = c.in-Ok-refs_of.refs.items in
     let numbers : refs ≡ map (λ (t : CellText). t.refs) texts = c.in-Ok-refs_of.ensures ∙ ap (map (λ (t : CellText). t.refs)) c.deref-4.ensures.value in
-    let trees : bag_trees c.new.result ≡ root_trees cells refs f.roots = ap bag_trees c.new.ensures in
+    let trees : bag_trees c.new.result ≡ root_trees cells refs f.roots =
+    ap₂ (λ (x : List FaceView) (y : List (List ℕ)). root_trees x y c.new.result.roots) c.new.ensures.cells c.new.ensures.refs ∙ ap (λ (x : List ℕ). root_trees cells refs x) c.new.ensures.roots
+    in
     subst (Spells H bytes) (sym trees) (spelt H bytes fit f texts read cells filled none clear refs numbers)
 
 pub returns-in-Ok-Some-clause-exact : goal.returns-in-Ok-Some-clause-exact
@@ -157,7 +158,7 @@ returns-clause-few g c =
     let seen = c.deref.ensures.value in
     let cells = c.in-Ok-cells_of.cells.faces.items in
     let filled : cells ≡ faces_from H 0 (entries_of_texts (text_views texts)) = c.in-Ok-cells_of.ensures.faces ∙ ap (λ (x : List CellText). faces_from H 0 (entries_of_texts (text_views x))) seen in
-    omega (arith, few_texts H bytes fit f texts read, count-cells H bytes fit f texts read cells filled, ap (λ (b : BagView). length b.cells) c.new.ensures)
+    omega (arith, few_texts H bytes fit f texts read, count-cells H bytes fit f texts read cells filled, ap length c.new.ensures.cells)
 
 pub returns-clause-rooted : goal.returns-clause-rooted
 returns-clause-rooted g c =
@@ -167,4 +168,4 @@ returns-clause-rooted g c =
     let f : Frame = frame_of (parts_view c.in-Ok.bag.frame) in
     let texts : List CellText = c.in-Ok.bag.texts.items in
     let read : bag_at bytes ≡ bag_read (f, text_views texts) = c.in-Ok.ensures in
-    omega (arith, some_roots H bytes fit f texts read, ap (λ (b : BagView). length b.roots) c.new.ensures)
+    omega (arith, some_roots H bytes fit f texts read, ap length c.new.ensures.roots)

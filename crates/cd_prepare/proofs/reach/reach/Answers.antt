@@ -19,7 +19,7 @@ kid_is face kids p kid same in' is = is ∙ get_or_default kids p kid no_info in
 
 pub loop-number-init : goal.loop-number-init
 loop-number-init g c =
-    let count : length c.as_slice-cells.result.now ≡ length c.args.root.now.bag.now.cells = ap length c.as_slice-cells.ensures in
+    let count : length c.cells-cells.result.now ≡ length c.args.root.now.bag.now.cells = ap length c.cells-cells.ensures.value in
     let none : c.in_ok-reached.reached.marks.items ≡ replicate (length c.args.root.now.bag.now.cells) false = c.in_ok-reached.ensures.marks ∙ ap (λ n. replicate n false) count in
     IsWalked-first g.H.Hash32.digest_of c.args.root.now.bag.now.cells c.args.root.now.bag.now.refs c.args.root.now.number c.mark.new.self.marks.items c.mark.new.self.keys.items c.args.root.now.info c.args.root.now.there c.args.root.now.shown
     (c.in_ok-mark.ensures.marks ∙ ap (λ ms. slice_set ms c.args.root.now.number true) none)
@@ -31,12 +31,12 @@ loop-place-preserved g c =
     let face = c.index-cells-number.result in
     let number = c.loop-number.number in
     let place = c.loop-place.place in
-    let face-is : face ≡ face_at bag.cells number = face_is bag.cells c.as_slice-cells.result.now number face c.as_slice-cells.ensures c.loop-number-test.true c.index-cells-number.is in
+    let face-is : face ≡ face_at bag.cells number = face_is bag.cells c.cells-cells.result.now number face c.cells-cells.ensures.value c.loop-number-test.true c.index-cells-number.is in
     let kids-are : c.kids-kid-items.result.now ≡ (face_at bag.cells number).kids = c.kids-kid-items.ensures.value ∙ ap (λ (f : FaceView). f.kids) face-is in
     let in-kids : place < length (face_at bag.cells number).kids = omega (arith, c.loop-place-test.true, ap length kids-are) in
-    let ref-is : get_or (get_or c.as_slice-refs.result.now number []) place 0 ≡ ref_at bag.refs number place = ap (λ rs. ref_at rs number place) c.as_slice-refs.ensures in
-    let in-cells : number < length bag.cells = omega (arith, c.loop-number-test.true, ap length c.as_slice-cells.ensures) in
-    IsWalked-more g.H.Hash32.digest_of bag.cells bag.refs c.args.root.now.number bag.roots bag.is_bag number place c.loop-place.reached.marks.items c.mark-in-loop-place.new.self.marks.items
+    let ref-is : get_or (get_or c.refs-refs.result.now number []) place 0 ≡ ref_at bag.refs number place = ap (λ rs. ref_at rs number place) c.refs-refs.ensures.value in
+    let in-cells : number < length bag.cells = omega (arith, c.loop-number-test.true, ap length c.cells-cells.ensures.value) in
+    IsWalked-more g.H.Hash32.digest_of bag.cells bag.refs c.args.root.now.number bag.roots c.args.root.now.is_bag number place c.loop-place.reached.marks.items c.mark-in-loop-place.new.self.marks.items
     c.loop-place.reached.keys.items c.mark-in-loop-place.new.self.keys.items c.kid-item.result in-cells in-kids c.loop-place.invariant.1
     (kid_is (face_at bag.cells number) c.kids-kid-items.result.now place c.kid-item.result kids-are c.loop-place-test.true c.kid-item.is)
     (c.in_ok-mark-2.ensures.marks ∙ ap (λ (r : ℕ). slice_set c.loop-place.reached.marks.items r true) ref-is)
@@ -48,10 +48,10 @@ loop-number-preserved g c =
     let bag = c.args.root.now.bag.now in
     let number = c.loop-number.number in
     let marks = c.loop-number.reached.marks.items in
-    let within : number < length marks = omega (arith, c.loop-number-test.true, ap length c.as_slice-cells.ensures, c.loop-number.invariant.long) in
+    let within : number < length marks = omega (arith, c.loop-number-test.true, ap length c.cells-cells.ensures.value, c.loop-number.invariant.long) in
     elim c.if-index.branch [
       | then-index+else-loop-place-test w ↦
-          let face-is : w.index-cells-number.result ≡ face_at bag.cells number = face_is bag.cells c.as_slice-cells.result.now number w.index-cells-number.result c.as_slice-cells.ensures c.loop-number-test.true w.index-cells-number.is in
+          let face-is : w.index-cells-number.result ≡ face_at bag.cells number = face_is bag.cells c.cells-cells.result.now number w.index-cells-number.result c.cells-cells.ensures.value c.loop-number-test.true w.index-cells-number.is in
           let kids-are : w.kids-kid-items.result.now ≡ (face_at bag.cells number).kids = w.kids-kid-items.ensures.value ∙ ap (λ (f : FaceView). f.kids) face-is in
           rw w.reached-is (IsWalked-next g.H.Hash32.digest_of bag.cells bag.refs c.args.root.now.number number w.loop-place.place w.loop-place.reached.marks.items w.loop-place.reached.keys.items
           (omega (arith, w.loop-place-test.false, ap length kids-are)) w.loop-place.invariant.0)
@@ -63,5 +63,5 @@ loop-number-preserved g c =
 pub returns : goal.returns
 returns g c =
     let bag = c.args.root.now.bag.now in
-    AreReached-walked g.H.Hash32.digest_of bag.cells bag.refs c.args.root.now.number bag.roots bag.is_bag c.loop-number.number c.loop-number.reached.marks.items c.loop-number.reached.keys.items
-    (omega (arith, c.loop-number-test.false, ap length c.as_slice-cells.ensures)) c.loop-number.invariant
+    AreReached-walked g.H.Hash32.digest_of bag.cells bag.refs c.args.root.now.number bag.roots c.args.root.now.is_bag c.loop-number.number c.loop-number.reached.marks.items c.loop-number.reached.keys.items
+    (omega (arith, c.loop-number-test.false, ap length c.cells-cells.ensures.value)) c.loop-number.invariant

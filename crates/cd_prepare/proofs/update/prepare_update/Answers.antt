@@ -36,7 +36,7 @@ new_cells-requires-clause-good g c κs within =
     let update = c.args.update.now in
     let bag = update.bag.now in
     let u = bag_tree bag update.root in
-    good-faces H u (well-update H bag.cells bag.refs bag.roots bag.is_bag update.root update.is_update) (kind-update H bag.cells bag.refs bag.roots bag.is_bag update.root update.is_update) (mask-update H bag.cells bag.refs bag.roots bag.is_bag update.root update.is_update) c.in-Ok.known.infos c.in-Ok.known.old c.in-Ok-graft.ensures.refused c.as_slice.result.now (c.as_slice.ensures ∙ c.in-Ok-graft.ensures.cells)
+    good-faces H u (well-update H bag.cells bag.refs bag.roots update.is_bag update.root update.is_update) (kind-update H bag.cells bag.refs bag.roots update.is_bag update.root update.is_update) (mask-update H bag.cells bag.refs bag.roots update.is_bag update.root update.is_update) c.in-Ok.known.infos c.in-Ok.known.old c.in-Ok-graft.ensures.refused c.as_slice.result.now (c.as_slice.ensures ∙ c.in-Ok-graft.ensures.cells)
 
 pub new-requires-after_bounds : goal.new-requires-after_bounds
 new-requires-after_bounds g c κs within =
@@ -44,9 +44,9 @@ new-requires-after_bounds g c κs within =
     let update = c.args.update.now in
     let bag = update.bag.now in
     let u = bag_tree bag update.root in
-    let well = well-update H bag.cells bag.refs bag.roots bag.is_bag update.root update.is_update in
-    let kind = kind-update H bag.cells bag.refs bag.roots bag.is_bag update.root update.is_update in
-    let plain = mask-update H bag.cells bag.refs bag.roots bag.is_bag update.root update.is_update in
+    let well = well-update H bag.cells bag.refs bag.roots update.is_bag update.root update.is_update in
+    let kind = kind-update H bag.cells bag.refs bag.roots update.is_bag update.root update.is_update in
+    let plain = mask-update H bag.cells bag.refs bag.roots update.is_bag update.root update.is_update in
     let known = c.in-Ok.known.infos in
     let faces = c.as_slice.result.now in
     let are = c.as_slice.ensures ∙ c.in-Ok-graft.ensures.cells in
@@ -62,9 +62,9 @@ returns-in-Ok-new_cells-clause-rep g c =
     let update = c.args.update.now in
     let bag = update.bag.now in
     let u = bag_tree bag update.root in
-    let well = well-update H bag.cells bag.refs bag.roots bag.is_bag update.root update.is_update in
-    let kind = kind-update H bag.cells bag.refs bag.roots bag.is_bag update.root update.is_update in
-    let plain = mask-update H bag.cells bag.refs bag.roots bag.is_bag update.root update.is_update in
+    let well = well-update H bag.cells bag.refs bag.roots update.is_bag update.root update.is_update in
+    let kind = kind-update H bag.cells bag.refs bag.roots update.is_bag update.root update.is_update in
+    let plain = mask-update H bag.cells bag.refs bag.roots update.is_bag update.root update.is_update in
     let root = root-is H u well kind plain c.in-Ok.known.infos c.in-Ok.known.old c.in-Ok-graft.ensures.refused in
     ap rep_of_info (c.new.ensures.root ∙ c.in-Ok-graft.ensures.root) ∙ root.1
 
@@ -94,9 +94,9 @@ returns-in-Ok-new_cells-clause-applied g c t are =
     let update = c.args.update.now in
     let bag = update.bag.now in
     let u = bag_tree bag update.root in
-    let well = well-update H bag.cells bag.refs bag.roots bag.is_bag update.root update.is_update in
-    let kind = kind-update H bag.cells bag.refs bag.roots bag.is_bag update.root update.is_update in
-    let plain = mask-update H bag.cells bag.refs bag.roots bag.is_bag update.root update.is_update in
+    let well = well-update H bag.cells bag.refs bag.roots update.is_bag update.root update.is_update in
+    let kind = kind-update H bag.cells bag.refs bag.roots update.is_bag update.root update.is_update in
+    let plain = mask-update H bag.cells bag.refs bag.roots update.is_bag update.root update.is_update in
     let known = c.in-Ok.known.infos in
     let faces = c.as_slice.result.now in
     let made = c.as_slice.ensures ∙ c.in-Ok-graft.ensures.cells in

@@ -11,25 +11,25 @@ use Rattle.cd_prepare.proofs.zero.cells_below.Goals as goal
 pub cells_of-requires : goal.cells_of-requires
 cells_of-requires g c =
     let bag = c.args.root.now.bag.now in
-    subst (λ fs. All (λ (key : Key). key.number < length fs) c.deref.result.now) (sym c.as_slice.ensures)
+    subst (λ fs. All (λ (key : Key). key.number < length fs) c.deref.result.now) (sym c.cells.ensures.value)
     (subst (All (λ (key : Key). key.number < length bag.cells)) (sym c.deref.ensures.value)
-    (all-there g.H.Hash32.digest_of bag.cells bag.refs bag.roots bag.is_bag c.args.root.now.number c.args.root.now.there c.in_ok-keys.keys.items c.sort.new.keys.items c.in_ok-keys.ensures c.sort.ensures))
+    (all-there g.H.Hash32.digest_of bag.cells bag.refs bag.roots c.args.root.now.is_bag c.args.root.now.number c.args.root.now.there c.in_ok-keys.keys.items c.sort.new.keys.items c.in_ok-keys.ensures c.sort.ensures))
 
 pub returns-clause-cells : goal.returns-clause-cells
 returns-clause-cells g c =
     let bag = c.args.root.now.bag.now in
     IfOk-weaker c.cells_of.result _ _
     (λ cells is.
-    is ∙ ap₂ (λ fs ks. map (cell_of_key fs) ks) c.as_slice.ensures c.deref.ensures.value
-    ∙ listed_cells g.H.Hash32.digest_of bag.cells bag.refs bag.roots bag.is_bag c.args.root.now.number c.args.root.now.there c.in_ok-keys.keys.items c.sort.new.keys.items c.in_ok-keys.ensures c.sort.ensures)
+    is ∙ ap₂ (λ fs ks. map (cell_of_key fs) ks) c.cells.ensures.value c.deref.ensures.value
+    ∙ listed_cells g.H.Hash32.digest_of bag.cells bag.refs bag.roots c.args.root.now.is_bag c.args.root.now.number c.args.root.now.there c.in_ok-keys.keys.items c.sort.new.keys.items c.in_ok-keys.ensures c.sort.ensures)
     c.cells_of.ensures
 
 pub returns-clause-few : goal.returns-clause-few
 returns-clause-few g c =
     let bag = c.args.root.now.bag.now in
-    let few = few-listed g.H.Hash32.digest_of bag.cells bag.refs bag.roots bag.is_bag c.args.root.now.number c.args.root.now.there c.in_ok-keys.keys.items c.sort.new.keys.items c.in_ok-keys.ensures c.sort.ensures in
+    let few = few-listed g.H.Hash32.digest_of bag.cells bag.refs bag.roots c.args.root.now.is_bag c.args.root.now.number c.args.root.now.there c.in_ok-keys.keys.items c.sort.new.keys.items c.in_ok-keys.ensures c.sort.ensures in
     IfOk-weaker c.cells_of.result _ _
-    (λ cells is. omega (arith, few, ap length is, length-map c.deref.result.now (cell_of_key c.as_slice.result.now), ap length c.deref.ensures.value))
+    (λ cells is. omega (arith, few, ap length is, length-map c.deref.result.now (cell_of_key c.cells.result.now), ap length c.deref.ensures.value))
     c.cells_of.ensures
 
 pub returns-clause-good : goal.returns-clause-good
@@ -37,6 +37,6 @@ returns-clause-good g c =
     let bag = c.args.root.now.bag.now in
     IfOk-weaker c.cells_of.result _ _
     (λ cells is.
-    subst (All (λ (x : NewCell). IsGoodFace x.face)) (sym (is ∙ ap₂ (λ fs ks. map (cell_of_key fs) ks) c.as_slice.ensures c.deref.ensures.value))
-    (good-listed g.H.Hash32.digest_of bag.cells bag.refs bag.roots bag.is_bag c.args.root.now.number c.args.root.now.there c.in_ok-keys.keys.items c.sort.new.keys.items c.in_ok-keys.ensures c.sort.ensures))
+    subst (All (λ (x : NewCell). IsGoodFace x.face)) (sym (is ∙ ap₂ (λ fs ks. map (cell_of_key fs) ks) c.cells.ensures.value c.deref.ensures.value))
+    (good-listed g.H.Hash32.digest_of bag.cells bag.refs bag.roots c.args.root.now.is_bag c.args.root.now.number c.args.root.now.there c.in_ok-keys.keys.items c.sort.new.keys.items c.in_ok-keys.ensures c.sort.ensures))
     c.cells_of.ensures

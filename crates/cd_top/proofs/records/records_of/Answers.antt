@@ -19,7 +19,7 @@ bounds-cells-placed g c =
     let order = c.args.order.now in
     let d : Hash256 × ℕ = (record { 0 = [] }, 0) in
     let there = placed-in c.args.value.now.cells order c.requires.order (get_or order c.loop-at.at d) (Contains-get_or order c.loop-at.at d c.loop-at-test.true) in
-    omega (arith, there.0, ap length c.as_slice-cells.ensures)
+    omega (arith, there.0, ap length c.cells-cells.ensures.value)
 
 pub encode_cell-requires-clause-some : goal.encode_cell-requires-clause-some
 encode_cell-requires-clause-some g c =
@@ -28,7 +28,7 @@ encode_cell-requires-clause-some g c =
     let at = c.loop-at.at in
     let d : Hash256 × ℕ = (no_hash, 0) in
     let there = placed-in value.cells order c.requires.order (get_or order at d) (Contains-get_or order at d c.loop-at-test.true) in
-    let some = some-reference g.H.Hash32.digest_of value.root value.cells value.valid (let p = get_or order at d in p.1) there.0 in
+    let some = some-reference g.H.Hash32.digest_of value.root value.cells c.cells-cells.ensures.kept (let p = get_or order at d in p.1) there.0 in
     let same = ap (references value.root value.cells) there.1 in
     omega (arith, some, same, c.requires.counts.counted at c.loop-at-test.true)
 
@@ -39,8 +39,8 @@ encode_cell-requires-clause-fit g c =
     let d : Hash256 × ℕ = (record { 0 = [] }, 0) in
     let p = get_or order c.loop-at.at d in
     let there = placed-in value.cells order c.requires.order p (Contains-get_or order c.loop-at.at d c.loop-at-test.true) in
-    let cell = ap (λ cs. get_or cs p.1 c.index-cells-placed.result) c.as_slice-cells.ensures ∙ get_or_default value.cells p.1 c.index-cells-placed.result no_cell there.0 in
-    let good = value.valid.good p.1 there.0 in
+    let cell = ap (λ cs. get_or cs p.1 c.index-cells-placed.result) c.cells-cells.ensures.value ∙ get_or_default value.cells p.1 c.index-cells-placed.result no_cell there.0 in
+    let good = c.cells-cells.ensures.kept.good p.1 there.0 in
     subst (λ (n : NewCell). IsFaceFit n.face) (sym cell) good.fit
 
 pub loop-at-preserved : goal.loop-at-preserved
@@ -53,7 +53,7 @@ loop-at-preserved g c =
     let p = get_or order at d in
     let text = c.in_ok-encode_cell.field-0 in
     let there = placed-in value.cells order c.requires.order p (Contains-get_or order at d in') in
-    let cell = ap (λ cs. get_or cs p.1 c.index-cells-placed.result) c.as_slice-cells.ensures ∙ get_or_default value.cells p.1 c.index-cells-placed.result no_cell there.0 in
+    let cell = ap (λ cs. get_or cs p.1 c.index-cells-placed.result) c.cells-cells.ensures.value ∙ get_or_default value.cells p.1 c.index-cells-placed.result no_cell there.0 in
     let face = ap (λ (n : NewCell). n.face) cell in
     let count = c.requires.counts.counted at in' ∙ ap (λ (q : Hash256 × ℕ). references value.root value.cells q.0) (get_or_default order at (no_hash, 0) d in') in
     let told : text.items ≡ record_text (references value.root value.cells p.0) (listed_at value.cells p.1).face = c.in_ok-encode_cell.ensures ∙ (λ j. record_text (count j) (face j)) in

@@ -6,27 +6,27 @@ use Rattle.cd_cell.specs.Listings.{no_cell}
 use Rattle.bag_faults.proofs.OldStateLaws.{found-place, face_in-place, face_in-None}
 use Rattle.bag_faults.proofs.old_state.OldState.face.Goals as goal
 
-pub offset_bounds-as_slice-place : goal.offset_bounds-as_slice-place
-offset_bounds-as_slice-place g c =
+pub offset_bounds-cells-place : goal.offset_bounds-cells-place
+offset_bounds-cells-place g c =
     let self = c.args.self.now in
     let at = found-place self.places self.whole.cells self.indexed c.args.hash.now c.in-Some.place.now (sym c.in-Some.ensures.value) in
-    omega (arith, at.0, ap length c.as_slice.ensures)
+    omega (arith, at.0, ap length c.cells.ensures.value)
 
-pub bounds-as_slice-place : goal.bounds-as_slice-place
-bounds-as_slice-place g c =
+pub bounds-cells-place : goal.bounds-cells-place
+bounds-cells-place g c =
     let self = c.args.self.now in
     let at = found-place self.places self.whole.cells self.indexed c.args.hash.now c.in-Some.place.now (sym c.in-Some.ensures.value) in
-    omega (arith, at.0, ap length c.as_slice.ensures)
+    omega (arith, at.0, ap length c.cells.ensures.value)
 
 pub returns-in-Some : goal.returns-in-Some
 returns-in-Some g c =
     let self = c.args.self.now in
     let cells = self.whole.cells in
     let place = c.in-Some.place.now in
-    let read = c.index-as_slice-place.result in
+    let read = c.index-cells-place.result in
     let at = found-place self.places cells self.indexed c.args.hash.now place (sym c.in-Some.ensures.value) in
-    face_in-place g.H.Hash32.digest_of self.whole.root cells self.whole.valid place c.args.hash.now at.0 at.1
-    ∙ ap (λ (d : NewCell). Some d.face) (get_or_default cells place no_cell read at.0 ∙ ap (λ cs. get_or cs place read) (sym c.as_slice.ensures))
+    face_in-place g.H.Hash32.digest_of self.whole.root cells c.cells.ensures.kept place c.args.hash.now at.0 at.1
+    ∙ ap (λ (d : NewCell). Some d.face) (get_or_default cells place no_cell read at.0 ∙ ap (λ cs. get_or cs place read) (sym c.cells.ensures.value))
 
 pub returns-in-None : goal.returns-in-None
 returns-in-None g c =
