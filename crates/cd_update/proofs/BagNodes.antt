@@ -10,7 +10,7 @@ use Rattle.cd_cell.specs.BagView.{BagView}
 use Rattle.cd_cell.specs.Levels.{kid_level}
 use Rattle.cd_cell.specs.Tree.{Tree, cell, Trees, no_trees, tree_and, list_of, children, face_of}
 use Rattle.cd_cell.specs.Updates.{is_hidden}
-use Rattle.cd_cell.specs.Bags.{bag_cell, face_at, ref_at, IsBag}
+use Rattle.cd_cell.specs.Bags.{bag_tree, face_at, ref_at, IsBag}
 use Rattle.cd_cell.proofs.Subtrees.{Contains-nil, Contains-map}
 use Rattle.cd_cell.proofs.BagLaws.{face_of-bag, children-bag, enough-bag}
 use Rattle.cd_update.specs.declared.visit.Node.{Node}

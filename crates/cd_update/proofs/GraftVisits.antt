@@ -16,7 +16,7 @@ use Rattle.cd_cell.specs.Tree.{Tree, cell, Trees, no_trees, tree_and, list_of, c
 use Rattle.cd_cell.specs.Unfolding.{no_tree}
 use Rattle.cd_cell.specs.Equality.{same_info}
 use Rattle.cd_cell.specs.Updates.{is_hidden, some_unless}
-use Rattle.cd_cell.specs.Bags.{bag_cell, face_at, IsBag}
+use Rattle.cd_cell.specs.Bags.{bag_tree, face_at, IsBag}
 use Rattle.cd_cell.proofs.Subtrees.{Contains-mapped}
 use Rattle.cd_cell.proofs.BagLaws.{well_formed-bag}
 use Rattle.cd_update.specs.declared.visit.Node.{Node}

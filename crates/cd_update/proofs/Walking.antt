@@ -28,7 +28,7 @@ pub record IsWalking (H : List ℕ → Hash256) (bag : BagView) (start : Node) (
   pub pending_shown : All (IsShown H bag) pending
 
 -- the places that are left
-abbrev pub places_left : List FaceView → List (List ℕ) → List Visit → ℕ
+abbrev pub places_left : BagView → List Visit → ℕ
 places_left bag pending = length (flat_map (nodes_from bag) (reverse (nodes_of pending)))
 
 top-pending : (rest : List Visit) (v : Visit) (pending : List Visit) → pending ≡ rest ++ v ∷ [] → reverse (nodes_of pending) ≡ v.node ∷ reverse (nodes_of rest)

@@ -4,7 +4,7 @@ pub mod Nodes
 pub mod UpdateFaults
 pub mod Visits
 pub mod Pairing
-pub mod Faults
+pub mod Answers
 pub mod Grafts
 pub mod GraftSteps
 pub mod GraftWalks

@@ -1,5 +1,6 @@
--- An old half beside the faces that were found for its wanted hashes.
+-- Trusted: an old half beside the faces that were found for its wanted hashes.
 use Rattle.std.specs.Prelude.{◌≡◌, ℕ, min, ◌≤◌, ◌==◌, if◌then◌else◌, List, [], ◌∷◌, Contains, Option, Some, None}
+use Rattle.std.specs.List.{flat_map}
 use Rattle.std.specs.Option.{option_or, option_map, option_to_list}
 use Rattle.cd_base.specs.declared.hash.Hash256.{Hash256}
 use Rattle.cd_cell.specs.declared.info.ChildInfo.{ChildInfo}
@@ -10,7 +11,7 @@ use Rattle.cd_cell.specs.Levels.{stated_hash}
 use Rattle.cd_cell.specs.CellFaults.{stated_depth_of_kid}
 use Rattle.cd_cell.specs.Steady.{IsSteady}
 use Rattle.cd_cell.specs.Tree.{Tree, subtrees, info_of, face_of, hash_at, rep_of, mask_of, IsWellFormed}
-use Rattle.cd_cell.specs.Equality.{same_hash}
+use Rattle.cd_cell.specs.Equality.{same_hash, same_info}
 use Rattle.cd_cell.specs.Export.{IsClashFree}
 use Rattle.cd_cell.specs.Updates.{agrees, is_hidden, Misfit, UpdateRefusal, old_hash, old_depth, old_half, some_unless, half_of, wanted, hash_refusal, depth_refusal, half_refusal}
 use Rattle.cd_update.specs.EachOnce.{each_once, first_of}
@@ -58,6 +59,10 @@ module _ (H : List ℕ → Hash256) where
   -- what the old cell in a place shows, where it matches
   abbrev pub known_at : Place → List ChildInfo
   known_at p = upto p.depth (info_of H p.tree) ∷ []
+
+  -- what is known of the old cells that an old half meets, in preorder, each once
+  abbrev pub met_infos : Tree → List ChildInfo
+  met_infos half = each_once same_info (flat_map known_at (places H half 0))
 
   module _ (look : Hash256 → Option FaceView) where
     abbrev pub misfit_at : Place → Option Misfit

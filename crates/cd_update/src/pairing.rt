@@ -80,10 +80,10 @@ fn check_visits<H: Hash32>(
     visits: &[Visit],
     faces: &[Option<Face>],
 ) -> Result<(), PairFault>
-    requires { All (IsShown H.digest_of bag.now.cells) visits.now }
+    requires { All (IsShown H.digest_of bag.now) visits.now }
     ensures { MatchResult result
-        (λ _. first_of (misfit_at H.digest_of (beside (each_once same_hash (flat_map (wanted_at H.digest_of) (visited bag.now.cells bag.now.refs visits.now))) faces.now)) (visited bag.now.cells bag.now.refs visits.now) ≡ None)
-        (λ fault. (fault ≡ PairFault.Memory) ⊎ (told fault ≡ option_map old_half (first_of (misfit_at H.digest_of (beside (each_once same_hash (flat_map (wanted_at H.digest_of) (visited bag.now.cells bag.now.refs visits.now))) faces.now)) (visited bag.now.cells bag.now.refs visits.now)))) }
+        (λ _. first_of (misfit_at H.digest_of (beside (each_once same_hash (flat_map (wanted_at H.digest_of) (visited bag.now visits.now))) faces.now)) (visited bag.now visits.now) ≡ None)
+        (λ fault. (fault ≡ PairFault.Memory) ⊎ (told fault ≡ option_map old_half (first_of (misfit_at H.digest_of (beside (each_once same_hash (flat_map (wanted_at H.digest_of) (visited bag.now visits.now))) faces.now)) (visited bag.now visits.now)))) }
 {
     let mut hashes = Hashes::new(alloc);
     for visit in visits {
@@ -103,8 +103,8 @@ fn check_visits<H: Hash32>(
 
 /// What the old cells show that some visits met.
 fn infos_of<H: Hash32>(alloc: Global, bag: &Bag<H>, visits: &[Visit]) -> Result<Known, Memory>
-    requires { All (IsShown H.digest_of bag.now.cells) visits.now }
-    ensures { IfOk result (λ known. known.infos ≡ each_once same_info (flat_map (known_at H.digest_of) (visited bag.now.cells bag.now.refs visits.now))) }
+    requires { All (IsShown H.digest_of bag.now) visits.now }
+    ensures { IfOk result (λ known. known.infos ≡ each_once same_info (flat_map (known_at H.digest_of) (visited bag.now visits.now))) }
 {
     let mut infos = Infos::new(alloc);
     for visit in visits {

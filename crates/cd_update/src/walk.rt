@@ -70,9 +70,9 @@ fn push_children<H: Hash32>(
     visit: Visit,
     pending: &mut Vec<Visit>,
 ) -> Result<(), Memory>
-    requires shown { IsShown H.digest_of bag.now.cells visit }
-    ensures nodes { OnOk result (nodes_of pending.new.items ≡ nodes_of pending.old.items ++ reverse (next_nodes bag.now.cells bag.now.refs visit.node)) }
-    ensures shown { OnOk result (All (IsShown H.digest_of bag.now.cells) pending.old.items → All (IsShown H.digest_of bag.now.cells) pending.new.items) }
+    requires { IsShown H.digest_of bag.now visit }
+    ensures nodes { OnOk result (nodes_of pending.new.items ≡ nodes_of pending.old.items ++ reverse (next_nodes bag.now visit.node)) }
+    ensures shown { OnOk result (All (IsShown H.digest_of bag.now) pending.old.items → All (IsShown H.digest_of bag.now) pending.new.items) }
 {
     let face = bag.face(visit.node.entry);
     if is_hidden(face, shown_info(bag, &visit), visit.node.depth) {
@@ -101,9 +101,9 @@ pub(crate) fn visit_all<H: Hash32>(
     bag: &Bag<H>,
     start: Visit,
 ) -> Result<Walk, Memory>
-    requires { IsShown H.digest_of bag.now.cells start }
-    ensures nodes { IfOk result (λ walk. nodes_of walk.visits.items ≡ each_once same_node (nodes_from bag.now.cells bag.now.refs start.node)) }
-    ensures shown { IfOk result (λ walk. All (IsShown H.digest_of bag.now.cells) walk.visits.items) }
+    requires { IsShown H.digest_of bag.now start }
+    ensures nodes { IfOk result (λ walk. nodes_of walk.visits.items ≡ each_once same_node (nodes_from bag.now start.node)) }
+    ensures shown { IfOk result (λ walk. All (IsShown H.digest_of bag.now) walk.visits.items) }
     ensures wide { IfOk result (λ walk. length walk.numbers.items ≡ 4 * length bag.now.cells) }
 {
     let mut walk = Walk::start(alloc, bag.cells().len())?;

@@ -18,8 +18,8 @@ use std::alloc::Global;
 
 /// The hash by which the face of an old cell is found, where the cell is shown.
 pub(crate) fn hash_of_visible<H: Hash32>(bag: &Bag<H>, visit: &Visit) -> Option<Hash256>
-    requires { IsShown H.digest_of bag.now.cells visit.now }
-    ensures { result ≡ visible_hash H.digest_of (place_of bag.now.cells bag.now.refs visit.now.node) }
+    requires { IsShown H.digest_of bag.now visit.now }
+    ensures { result ≡ visible_hash H.digest_of (place_of bag.now visit.now.node) }
 {
     let info = shown_info(bag, visit);
     let depth = visit.node.depth;
@@ -31,8 +31,8 @@ pub(crate) fn hash_of_visible<H: Hash32>(bag: &Bag<H>, visit: &Visit) -> Option<
 
 /// The wanted hashes of some visits.
 fn hashes_of<H: Hash32>(alloc: Global, bag: &Bag<H>, visits: &[Visit]) -> Result<Hashes, Memory>
-    requires { All (IsShown H.digest_of bag.now.cells) visits.now }
-    ensures { IfOk result (λ hashes. hashes.all.items ≡ each_once same_hash (flat_map (wanted_at H.digest_of) (visited bag.now.cells bag.now.refs visits.now))) }
+    requires { All (IsShown H.digest_of bag.now) visits.now }
+    ensures { IfOk result (λ hashes. hashes.all.items ≡ each_once same_hash (flat_map (wanted_at H.digest_of) (visited bag.now visits.now))) }
 {
     let mut hashes = Hashes::new(alloc);
     for visit in visits {

@@ -29,7 +29,7 @@ loop-left-preserved g c =
           λ all.
           subst (All (IsShown H bag)) (sym c.in_ok-push.ensures.items)
           (All-push (IsShown H bag) c.loop-left.pending.items v (c.loop-left.invariant.shown all)
-          (IsShown-child H bag c.face-face.ensures.kept k left c.kid_level-depth.result (get_or children left 0) c.requires.shown.entry in-kids c.kid_level-depth.ensures.small (ap (λ xs. get_or xs left 0) c.children-children.ensures.numbers)));
+          (IsShown-child H bag c.face-face.ensures.kept k left c.kid_level-depth.result (get_or children left 0) c.requires.entry in-kids c.kid_level-depth.ensures.small (ap (λ xs. get_or xs left 0) c.children-children.ensures.numbers)));
     }
 
 pub returns-clause-nodes : goal.returns-clause-nodes

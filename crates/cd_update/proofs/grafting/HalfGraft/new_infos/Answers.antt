@@ -5,7 +5,7 @@ use Rattle.cd_update.specs.Visits.{spot, visit_at, no_visit}
 use Rattle.cd_update.specs.Grafts.{AreGrafted, grafted_info}
 use Rattle.cd_cell.specs.Bags.{bag_tree}
 use Rattle.cd_update.proofs.GraftVisits.{grafted-start, grafted-skip, grafted-more}
-use Rattle.cd_update.proofs.grafting.new_infos.Goals as goal
+use Rattle.cd_update.proofs.grafting.HalfGraft.new_infos.Goals as goal
 
 pub loop-left-init : goal.loop-left-init
 loop-left-init g c =

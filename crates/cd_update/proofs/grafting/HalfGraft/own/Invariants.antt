@@ -5,7 +5,7 @@ use Rattle.cd_cell.specs.Equality.{same_face}
 use Rattle.cd_update.specs.EachOnce.{each_once}
 use Rattle.cd_update.specs.Visits.{visited}
 use Rattle.cd_update.specs.Grafts.{own_face_at}
-use Rattle.cd_update.proofs.grafting.own_of.Given as goal
+use Rattle.cd_update.proofs.grafting.HalfGraft.own.Given as goal
 
 abbrev pub invariant-loop-number : goal.invariant-loop-number
 invariant-loop-number g l = record {

@@ -13,7 +13,7 @@ use Rattle.cd_update.specs.Grafts.{grafted_info, grafted_face, own_face_at}
 use Rattle.cd_update.proofs.PlaceLaws.{each_once-more}
 use Rattle.cd_update.proofs.GraftInfos.{info-visible}
 use Rattle.cd_update.proofs.GraftVisits.{grafted-weaker}
-use Rattle.cd_update.proofs.grafting.own_of.Goals as goal
+use Rattle.cd_update.proofs.grafting.HalfGraft.own.Goals as goal
 
 pub loop-number-preserved-then-is_hidden : goal.loop-number-preserved-then-is_hidden
 loop-number-preserved-then-is_hidden g c =

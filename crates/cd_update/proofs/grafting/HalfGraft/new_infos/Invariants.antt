@@ -1,7 +1,7 @@
 -- The visits from a spot on have been worked out.
 use Rattle.std.proofs.Common.{◌≤◌, length}
 use Rattle.cd_update.specs.Grafts.{AreGrafted}
-use Rattle.cd_update.proofs.grafting.new_infos.Given as goal
+use Rattle.cd_update.proofs.grafting.HalfGraft.new_infos.Given as goal
 
 abbrev pub invariant-loop-left : goal.invariant-loop-left
 invariant-loop-left g l = record {

@@ -1,6 +1,6 @@
 -- The start was visited, and it was worked out too.
 use Rattle.cd_update.proofs.GraftVisits.{start-visited}
-use Rattle.cd_update.proofs.grafting.grafted_of.Goals as goal
+use Rattle.cd_update.proofs.grafting.HalfGraft.grafted.Goals as goal
 
 pub info_at-root-requires-clause-visited : goal.info_at-root-requires-clause-visited
 info_at-root-requires-clause-visited g c =

@@ -8,7 +8,7 @@ use Rattle.cd_cell.proofs.Subtrees.{info_of-face_of}
 use Rattle.cd_update.specs.Pairing.{upto}
 use Rattle.cd_update.proofs.GraftInfos.{face-good, info-visible}
 use Rattle.cd_update.proofs.GraftVisits.{info-hidden, visit-ready}
-use Rattle.cd_update.proofs.grafting.new_info.Goals as goal
+use Rattle.cd_update.proofs.grafting.HalfGraft.new_info.Goals as goal
 
 pub returns-then-is_hidden : goal.returns-then-is_hidden
 returns-then-is_hidden g c =

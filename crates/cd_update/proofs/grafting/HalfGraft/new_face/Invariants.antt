@@ -2,7 +2,7 @@
 use Rattle.std.proofs.Common.{◌≡◌, take, map}
 use Rattle.cd_cell.specs.Bags.{bag_tree, face_at}
 use Rattle.cd_update.specs.Grafts.{grafted_info}
-use Rattle.cd_update.proofs.grafting.new_face.Given as goal
+use Rattle.cd_update.proofs.grafting.HalfGraft.new_face.Given as goal
 
 abbrev pub invariant-loop-child : goal.invariant-loop-child
 invariant-loop-child g l = l.face ≡ record {

@@ -9,7 +9,7 @@ use Rattle.cd_update.specs.Visits.{spot}
 use Rattle.cd_update.specs.Grafts.{grafted_info}
 use Rattle.cd_update.proofs.IndexLaws.{infos-equal, infos-apart}
 use Rattle.cd_update.proofs.GraftVisits.{visited-next, next-child, child-behind, worked-out, face-kept, kids-kept}
-use Rattle.cd_update.proofs.grafting.is_unchanged.Goals as goal
+use Rattle.cd_update.proofs.grafting.HalfGraft.is_unchanged.Goals as goal
 
 pub info_at-requires-clause-visited : goal.info_at-requires-clause-visited
 info_at-requires-clause-visited g c =
