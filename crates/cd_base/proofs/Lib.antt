@@ -1,3 +1,4 @@
 pub mod ChecksumLaws
 pub mod NumberLaws
 pub mod ToldLaws
+pub mod ReadingLaws

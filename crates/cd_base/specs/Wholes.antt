@@ -1,4 +1,4 @@
--- What reading a source to its end does to the bytes that it has left, before and after.
+-- Trusted: what reading a source to its end does to the bytes that it has left, before and after.
 use Rattle.std.specs.Prelude.{◌≡◌, ℕ, ◌+◌, ◌<◌, ◌≤◌, Option, List, length, IfSome}
 use Rattle.cd_base.specs.declared.read_all_fault.ReadAllFault.{ReadAllFault}
 use Rattle.cd_base.specs.declared.read_all_fault.ReadAllFault.TheVariants.{Failed, Long, Memory}

@@ -3,6 +3,7 @@ ghost use Rattle.std.specs.Prelude.{◌≡◌, ◌<◌, ◌↔◌, length, take,
 use std::marker::Model;
 
 /// Bytes that are taken from their front. Contracts see it as the bytes left.
+/// It is kept since the store's interface names it; the crates of the store read by `part_at` and its like.
 #[derive(Drop)]
 pub struct ByteReader<'a> {
     rest: &'a [u8],

@@ -6,6 +6,7 @@ use std::alloc::Global;
 use std::marker::Model;
 
 /// Bytes that are put one after another. Contracts see it as the bytes so far.
+/// It is kept since the store's interface names it, for texts whose length isn't known beforehand.
 #[derive(Drop)]
 pub struct ByteWriter {
     bytes: Vec<u8>,

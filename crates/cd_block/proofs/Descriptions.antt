@@ -9,14 +9,16 @@ use Rattle.cd_block.specs.declared.shard.ShardId.{ShardId}
 use Rattle.cd_block.specs.declared.block.BlockId.{BlockId}
 use Rattle.cd_block.specs.declared.description.Descr.{Descr}
 use Rattle.cd_block.specs.declared.description.DescrFault.{DescrFault}
-use Rattle.cd_block.specs.declared.description.DescrFault.TheVariants.{Extra}
+use Rattle.cd_block.specs.declared.description.DescrFault.TheVariants.{Cut, Extra}
 use Rattle.cd_block.specs.Shard.{is_master}
 use Rattle.cd_block.specs.Block.{IsBlockId, key_of, id_of}
 use Rattle.cd_block.specs.Description.{ids_text, descr_text, IsDescr, IsDescrFit}
-use Rattle.cd_block.specs.Reading.{Gives, version_at, byte_at, part_at, depth_at, ids_at, most_tops, descr_in}
+use Rattle.cd_block.specs.Reading.{Gives, version_at, small_at, depth_at, id_at, most_tops, descr_in}
 use Rattle.cd_base.specs.Numbers.{IsBytes}
 use Rattle.cd_block.proofs.Keys.{key_of-id_of, id_of-key_of, IsBlockId-id_of}
-use Rattle.cd_block.proofs.DescrFields.{by_ok, ok_is, met, version_takes, version_again, byte_takes, byte_again, part_takes, part_again, depth_takes, depth_again, ids_take, ids_again}
+use Rattle.cd_base.specs.Reading.{part_at, each_at}
+use Rattle.cd_base.proofs.ReadingLaws.{by_ok, ok_is, kept_by_test, part_takes, part_again}
+use Rattle.cd_block.proofs.DescrFields.{version_takes, version_again, small_takes, small_again, depth_takes, depth_again, ids_take, ids_again}
 
 abbrev made : BlockId → ℕ → List BlockId → List ℕ → ℕ → List BlockId → Descr
 made id leaving parents root depth tops = record {
@@ -67,17 +69,17 @@ joined-read : (key : List ℕ) (id : BlockId) (leaving : ℕ) (parents : List Bl
     → descr_in key (joined leaving parents root depth tops) ≡ Ok (made id leaving parents root depth tops)
 unfolding descr_in joined
 joined-read key id leaving parents root depth tops eid lf lp kp lr ld lt kt =
-    let last : ids_at (length tops) (flat_map key_of tops) ≡ Ok (tops, []) = ap (ids_at (length tops)) (sym (append-nil (flat_map key_of tops))) ∙ ids_again tops [] kt in
+    let last : each_at id_at (length tops) (flat_map key_of tops) ≡ Ok (tops, []) = ap (each_at id_at (length tops)) (sym (append-nil (flat_map key_of tops))) ∙ ids_again tops [] kt in
     let after_root = to_be_bytes w16 depth ++ length tops ∷ flat_map key_of tops in
     rw (
       eid,
       version_again (leaving ∷ length parents ∷ (flat_map key_of parents ++ (root ++ after_root))),
-      byte_again 1 leaving (length parents ∷ (flat_map key_of parents ++ (root ++ after_root))) lf,
-      byte_again 2 (length parents) (flat_map key_of parents ++ (root ++ after_root)) lp,
+      small_again 1 leaving (length parents ∷ (flat_map key_of parents ++ (root ++ after_root))) lf,
+      small_again 2 (length parents) (flat_map key_of parents ++ (root ++ after_root)) lp,
       ids_again parents (root ++ after_root) kp,
-      part_again 32 root after_root lr,
+      part_again Cut 32 root after_root lr,
       depth_again depth (length tops ∷ flat_map key_of tops) ld,
-      byte_again (most_tops id.shard_id) (length tops) (flat_map key_of tops) lt,
+      small_again (most_tops id.shard_id) (length tops) (flat_map key_of tops) lt,
       last,
     ) refl
 
@@ -111,24 +113,24 @@ descr_takes : (key value : List ℕ) (d : Descr) → length key ≡ 80 → IsByt
 unfolding descr_in joined
 descr_takes key value d len fk fv e =
     by_ok (version_at value) _ d e (λ flags e0 k0.
-    by_ok (byte_at 1 flags) _ d k0 (λ leaving e1 k1.
-    by_ok (byte_at 2 leaving.1) _ d k1 (λ parent_count e2 k2.
-    by_ok (ids_at parent_count.0 parent_count.1) _ d k2 (λ parents e3 k3.
-    by_ok (part_at 32 parents.1) _ d k3 (λ root e4 k4.
+    by_ok (small_at 1 flags) _ d k0 (λ leaving e1 k1.
+    by_ok (small_at 2 leaving.1) _ d k1 (λ parent_count e2 k2.
+    by_ok (each_at id_at parent_count.0 parent_count.1) _ d k2 (λ parents e3 k3.
+    by_ok (part_at Cut 32 parents.1) _ d k3 (λ root e4 k4.
     by_ok (depth_at root.1) _ d k4 (λ depth e5 k5.
-    by_ok (byte_at (most_tops (id_of key).shard_id) depth.1) _ d k5 (λ top_count e6 k6.
-    by_ok (ids_at top_count.0 top_count.1) _ d k6 (λ tops e7 k7.
-    let g = met (eqb (length tops.1) 0) Extra (made (id_of key) leaving.0 parents.0 root.0 depth.0 tops.0) d k7 in
+    by_ok (small_at (most_tops (id_of key).shard_id) depth.1) _ d k5 (λ top_count e6 k6.
+    by_ok (each_at id_at top_count.0 top_count.1) _ d k6 (λ tops e7 k7.
+    let g = kept_by_test (eqb (length tops.1) 0) Extra (made (id_of key) leaving.0 parents.0 root.0 depth.0 tops.0) d k7 in
     let t0 = version_takes value flags e0 in
-    let t1 = byte_takes 1 flags leaving e1 in
-    let t2 = byte_takes 2 leaving.1 parent_count e2 in
+    let t1 = small_takes 1 flags leaving e1 in
+    let t2 = small_takes 2 leaving.1 parent_count e2 in
     let f0 = IsBytes-tail 1 value flags t0 fv in
     let f1 = IsBytes-tail leaving.0 flags leaving.1 t1.0 f0 in
     let f2 = IsBytes-tail parent_count.0 leaving.1 parent_count.1 t2.0 f1 in
     let t3 = ids_take parent_count.0 parent_count.1 parents f2 e3 in
-    let t4 = part_takes 32 parents.1 root t3.0.rest_fits e4 in
+    let t4 = part_takes Cut 32 parents.1 root t3.0.rest_fits e4 in
     let t5 = depth_takes root.1 depth t4.0.rest_fits e5 in
-    let t6 = byte_takes (most_tops (id_of key).shard_id) depth.1 top_count e6 in
+    let t6 = small_takes (most_tops (id_of key).shard_id) depth.1 top_count e6 in
     let t7 = ids_take top_count.0 top_count.1 tops (IsBytes-tail top_count.0 depth.1 top_count.1 t6.0 t5.0.rest_fits) e7 in
     let nothing : tops.1 ≡ [] = nil_from_length tops.1 (eqb-true _ _ g.0) in
     let last : top_count.1 ≡ flat_map key_of tops.0 = t7.0.parts ∙ ap (λ (x : List ℕ). flat_map key_of tops.0 ++ x) nothing ∙ append-nil (flat_map key_of tops.0) in

@@ -4,7 +4,6 @@ pub mod DescrFields
 pub mod Descriptions
 pub mod Halves
 pub mod HexTexts
-pub mod IdLoop
 pub mod Numbers
 pub mod Options
 pub mod Order

@@ -4,11 +4,12 @@ ghost use Rattle.cd_block.specs.Block.{key_of};
 ghost use Rattle.cd_block.specs.Description.{descr_text, IsDescr, IsDescrFit};
 ghost use Rattle.cd_block.specs.Reading as spec;
 ghost use Rattle.cd_block.specs.Reading.{Gives};
+ghost use Rattle.cd_base.specs.Reading.{each_at, Gives as FieldGives};
 
 use crate::block::BlockId;
 use crate::description::{BlockIds, Descr, DescrFault};
 use crate::shard::ShardId;
-use cd_base::Hash256;
+use cd_base::{Hash256, chunk_at};
 use std::alloc::Global;
 
 #[tactic(auto, unfolding(crate::specs::Reading::version_at))]
@@ -22,9 +23,10 @@ fn version_at(bytes: &[u8]) -> Result<&[u8], DescrFault>
     }
 }
 
-#[tactic(auto, unfolding(crate::specs::Reading::byte_at))]
-fn byte_at(most: u8, bytes: &[u8]) -> Result<(u8, &[u8]), DescrFault>
-    ensures { Gives (λ x. (x.0, x.1.now)) result (spec.byte_at most bytes.now) }
+/// A byte that is at most so much.
+#[tactic(auto, unfolding(crate::specs::Reading::small_at))]
+fn small_at(most: u8, bytes: &[u8]) -> Result<(u8, &[u8]), DescrFault>
+    ensures { Gives (λ x. (x.0, x.1.now)) result (spec.small_at most bytes.now) }
 {
     match bytes {
         [] => Err(DescrFault::Cut),
@@ -33,18 +35,11 @@ fn byte_at(most: u8, bytes: &[u8]) -> Result<(u8, &[u8]), DescrFault>
     }
 }
 
-#[tactic(auto, unfolding(crate::specs::Reading::part_at))]
-fn part_at<const N: usize>(bytes: &[u8]) -> Result<(&[u8; N], &[u8]), DescrFault>
-    ensures { Gives (λ x. (x.0.now, x.1.now)) result (spec.part_at N bytes.now) }
-{
-    bytes.split_first_chunk::<N>().ok_or(DescrFault::Cut)
-}
-
 #[tactic(auto, unfolding(crate::specs::Reading::depth_at))]
 fn depth_at(bytes: &[u8]) -> Result<(u16, &[u8]), DescrFault>
     ensures { Gives (λ x. (x.0, x.1.now)) result (spec.depth_at bytes.now) }
 {
-    let (depth, rest) = part_at::<2>(bytes)?;
+    let (depth, rest) = chunk_at::<2, _>(DescrFault::Cut, bytes)?;
     let depth = u16::from_be_bytes(*depth);
     if depth > 1024 {
         return Err(DescrFault::Form);
@@ -52,14 +47,23 @@ fn depth_at(bytes: &[u8]) -> Result<(u16, &[u8]), DescrFault>
     Ok((depth, rest))
 }
 
+/// A key, as the id that it is of.
+#[tactic(auto, unfolding(crate::specs::Reading::id_at))]
+fn id_at(bytes: &[u8]) -> Result<(BlockId, &[u8]), DescrFault>
+    ensures { FieldGives (λ x. (x.0, x.1.now)) result (spec.id_at bytes.now) }
+{
+    let (key, rest) = chunk_at::<80, _>(DescrFault::Cut, bytes)?;
+    Ok((BlockId::from_key(key), rest))
+}
+
 fn ids_at(alloc: Global, count: u8, bytes: &[u8]) -> Result<(Vec<BlockId>, &[u8]), DescrFault>
-    ensures { Gives (λ x. (x.0.items, x.1.now)) result (spec.ids_at count bytes.now) }
+    ensures { Gives (λ x. (x.0.items, x.1.now)) result (each_at spec.id_at count bytes.now) }
 {
     let mut ids = Vec::with_capacity(alloc, usize::from(count))?;
     let mut rest = bytes;
     for _ in 0..count {
-        let (key, after) = part_at::<80>(rest)?;
-        ids.push(BlockId::from_key(key))?;
+        let (id, after) = id_at(rest)?;
+        ids.push(id)?;
         rest = after;
     }
     Ok((ids, rest))
@@ -79,12 +83,12 @@ fn descr_in(alloc: Global, key: &[u8; 80], value: &[u8]) -> Result<Descr, DescrF
 {
     let id = BlockId::from_key(key);
     let rest = version_at(value)?;
-    let (leaving, rest) = byte_at(1, rest)?;
-    let (parent_count, rest) = byte_at(2, rest)?;
+    let (leaving, rest) = small_at(1, rest)?;
+    let (parent_count, rest) = small_at(2, rest)?;
     let (parents, rest) = ids_at(alloc, parent_count, rest)?;
-    let (root, rest) = part_at::<32>(rest)?;
+    let (root, rest) = chunk_at::<32, _>(DescrFault::Cut, rest)?;
     let (depth, rest) = depth_at(rest)?;
-    let (top_count, rest) = byte_at(most_tops(&id.shard_id), rest)?;
+    let (top_count, rest) = small_at(most_tops(&id.shard_id), rest)?;
     let (tops, rest) = ids_at(alloc, top_count, rest)?;
     if !rest.is_empty() {
         return Err(DescrFault::Extra);

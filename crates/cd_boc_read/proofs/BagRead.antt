@@ -23,6 +23,8 @@ use Rattle.cd_boc_read.specs.declared.cell_text.CellText.{CellText}
 use Rattle.cd_boc_read.specs.Grammar.{IsBagOf, IsStated, Spells}
 use Rattle.cd_boc_read.specs.Views.{text_view, text_views}
 use Rattle.cd_boc_read.specs.Reading.{bag_at}
+use Rattle.cd_boc_read.specs.Places.{stated_cells}
+use Rattle.cd_boc_read.proofs.PlaceLaws.{bag_counted}
 use Rattle.cd_boc_read.specs.CellFaults.{cells_fault, fault_of_texts}
 use Rattle.cd_cell.specs.Clashes.{clash_of}
 use Rattle.cd_boc_read.specs.BagFaults.{AreTexts, fault_in, bag_fault}
@@ -206,6 +208,10 @@ module _ (H : List ℕ → Hash256) where
     module _ (cells : List FaceView) (filled : cells ≡ read_faces) where
       pub count-cells : length cells ≡ length cell_texts
       count-cells = ap length filled ∙ count-faces
+
+      -- there are as many cells as the header states
+      pub count-stated : length cells ≡ stated_cells bytes
+      count-stated = count-cells ∙ sym count-read ∙ sym found.0.counted ∙ bag_counted bytes f read_texts read
 
       -- where no cell has a fault, the fault is their clash
       pub clash-told : cells_fault H 0 read_texts read_faces ≡ None → bag_fault H bytes ≡ option_map Clash (clash_of H cells)

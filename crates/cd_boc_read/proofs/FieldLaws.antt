@@ -33,7 +33,7 @@ pub holds : {B : Type 0} (b : Bool) (fault : BagFault) (f : Unit {0} → Result 
 holds true fault f e = refl
 holds false fault f e = absurd cc
 
-passed : {A : Type 0} (b : Bool) (d : BagFault) (x y : A) → cond b (Err d) (Ok x) ≡ Ok y → (b ≡ false) × (x ≡ y)
+pub passed : {A : Type 0} (b : Bool) (d : BagFault) (x y : A) → cond b (Err d) (Ok x) ≡ Ok y → (b ≡ false) × (x ≡ y)
 passed true d x y e = absurd cc
 passed false d x y e = (refl, cc)
 

@@ -6,6 +6,7 @@ pub mod StatedLaws
 pub mod FlagBits
 pub mod FieldLaws
 pub mod HeaderLaws
+pub mod PlaceLaws
 pub mod PartLaws
 pub mod TextLaws
 pub mod TextListLaws

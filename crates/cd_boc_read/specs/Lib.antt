@@ -1,5 +1,6 @@
 pub mod Views
 pub mod Grammar
+pub mod Places
 pub mod CellFaults
 pub mod Reading
 pub mod BagFaults

@@ -1,6 +1,7 @@
 ghost use Rattle.std.specs.Prelude.{◌≡◌, ◌≤◌, length, map, IfOk};
 ghost use Rattle.cd_cell.specs.Bags.{bag_trees};
 ghost use Rattle.cd_boc_read.specs.Grammar.{Spells};
+ghost use Rattle.cd_boc_read.specs.Places.{stated_cells};
 ghost use Rattle.cd_boc_read.specs.BagFaults.{bag_fault, Answers};
 
 use crate::BagFault;
@@ -15,6 +16,7 @@ use std::alloc::{AllocError, Global};
 pub fn read_bag<H: Hash32>(alloc: Global, bytes: &[u8]) -> Result<Bag<H>, BagFault>
     ensures found { IfOk result (λ bag. Spells H.digest_of bytes.now (bag_trees bag)) }
     ensures exact { Answers (bag_fault H.digest_of bytes.now) result }
+    ensures counted { IfOk result (λ bag. length bag.cells ≡ stated_cells bytes.now) }
     ensures few { IfOk result (λ bag. length bag.cells ≤ 1048576) }
     ensures rooted { IfOk result (λ bag. 1 ≤ length bag.roots) }
 {

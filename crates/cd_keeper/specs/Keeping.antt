@@ -1,5 +1,5 @@
--- What a call on a keeper does to what the keeper tells.
-use Rattle.std.specs.Prelude.{◌≡◌, ℕ, ◌≤◌, List, [], ◌∷◌, ◌++◌, Option, Some, None, Result, IfErr, ⊤}
+-- Trusted: what a call on a keeper does to what the keeper tells.
+use Rattle.std.specs.Prelude.{◌≡◌, ℕ, ◌≤◌, List, [], ◌∷◌, ◌++◌, Option, Some, None, Result, IfErr, OnOk}
 use Rattle.std.specs.Option.{option_map}
 use Rattle.cd_base.specs.Counts.{one_more, Rose}
 use Rattle.cd_keeper.specs.Contents.{Contents, Change, changed}
@@ -25,12 +25,13 @@ module _ {S : Type 0} (held : S → Option Contents) (trail : S → Option (List
     pub trailed : trail new ≡ longer (trail old) (held new)
     pub counted : batches new ≡ one_more (batches old)
 
--- a fault comes only where the count of faults rose; want of memory is free
+-- a fault comes only where the count of faults rose; want of memory is free, and leaves the count
 abbrev pub IsCaused : ℕ → ℕ → KeepFault → Type 0
 IsCaused before now Failed = Rose before now
-IsCaused before now Memory = ⊤
+IsCaused before now Memory = now ≡ before
 
--- the count of faults didn't fall over the call, and a fault comes only where it rose
+-- the count of faults didn't fall over the call, at an Ok it is as it was, and a fault comes only where it rose
 pub record HasKeepCause {T : Type 0} (before now : ℕ) (result : Result T KeepFault) : Type 0 where
   pub later : before ≤ now
+  pub steady : OnOk result (now ≡ before)
   pub caused : IfErr result (IsCaused before now)

@@ -5,78 +5,28 @@ use Rattle.std.proofs.lemmas.Bool.{eqb-true, eqb-false, ltb-false, le-ltb, ne_eq
 use Rattle.std.proofs.lemmas.List.{take_at, drop_at, take-append-drop, length-append, length-take}
 use Rattle.std.proofs.lemmas.Nat.{be_bytes_4, from_be_bytes-to_be_bytes_4}
 use Rattle.cd_base.specs.Numbers.{IsBytes}
-use Rattle.cd_base.proofs.NumberLaws.{IsBytes-take, IsBytes-drop, IsBytes-cons}
+use Rattle.cd_base.specs.Reading.{part_at, byte_at}
+use Rattle.cd_base.proofs.NumberLaws.{IsBytes-cons}
+use Rattle.cd_base.proofs.ReadingLaws.{by_ok, no_fault, kept_by_test, Takes, TakesByte, part_takes, part_again, byte_takes}
 use Rattle.cd_cell.specs.BitText.{data_of, data_bits, is_odd, IsBitData}
 use Rattle.cd_cell.specs.Levels.{descriptor2}
 use Rattle.cd_cell.proofs.BitLemmas.{length-data_of}
 use Rattle.cd_cell.proofs.DataBits.{data_of-data_bits, data_bits-few, descriptor2-data_bits_whole, descriptor2-data_bits_cut, data_bits-data_of, IsBitData-data_of}
 use Rattle.cd_record.specs.declared.record_fault.RecordFault.{RecordFault}
 use Rattle.cd_record.specs.declared.record_fault.RecordFault.TheVariants.{Version, Cut, Form}
-use Rattle.cd_record.specs.RecordReading.{◌>>=◌, part_at, byte_at, version_at, count_at, descriptor_at, bits_at, mask_at, lacks_completion}
-
-abbrev done : {A : Type 0} → A → Result A RecordFault
-done x = Ok x
-
-pub ok_is : {A : Type 0} (x y : A) → done x ≡ done y → x ≡ y
-ok_is x y e = cc
-
--- a step that answered a value, for a proof that goes on with it
-pub by_ok : {A B P : Type 0} (r : Result A RecordFault) (f : A → Result B RecordFault) (y : B) → (r >>= f) ≡ Ok y → ((x : A) → r ≡ Ok x → f x ≡ Ok y → P) → P
-by_ok (Ok x) f y e k = k x refl e
-by_ok (Err d) f y e k = absurd cc
-
--- a test that let a value pass
-pub passed : {A : Type 0} (b : Bool) (d : RecordFault) (x y : A) → cond b (Err d) (Ok x) ≡ Ok y → (b ≡ false) × (x ≡ y)
-passed true d x y e = absurd cc
-passed false d x y e = (refl, cc)
-
-pub met : {A : Type 0} (b : Bool) (d : RecordFault) (x y : A) → cond b (Ok x) (Err d) ≡ Ok y → (b ≡ true) × (x ≡ y)
-met true d x y e = (refl, cc)
-met false d x y e = absurd cc
-
--- ---- bytes
-
-pub record Takes (bytes text rest : List ℕ) : Type 0 where
-  pub parts : bytes ≡ text ++ rest
-  pub text_fits : IsBytes text
-  pub rest_fits : IsBytes rest
-
-pub part_takes : (len : ℕ) (bytes : List ℕ) (x : List ℕ × List ℕ) → IsBytes bytes → part_at len bytes ≡ Ok x → Takes bytes x.0 x.1 × (length x.0 ≡ len)
-unfolding part_at
-part_takes len bytes x fits e =
-    let g = passed (ltb (length bytes) len) Cut (take len bytes, drop len bytes) x e in
-    let long : len ≤ length bytes = ltb-false _ _ g.0 in
-    rw (← g.1) (record { parts = sym (take-append-drop len bytes); text_fits = IsBytes-take len bytes fits; rest_fits = IsBytes-drop len bytes fits }, omega (arith, length-take len bytes))
-
-pub part_again : (len : ℕ) (part rest : List ℕ) → length part ≡ len → part_at len (part ++ rest) ≡ Ok (part, rest)
-unfolding part_at
-part_again len part rest is =
-    let long : ltb (length (part ++ rest)) len ≡ false = le-ltb _ _ (omega (arith, length-append part rest)) in
-    rw (long, take_at part rest len is, drop_at part rest len is) refl
+use Rattle.cd_record.specs.RecordReading.{version_at, count_at, descriptor_at, bits_at, mask_at, lacks_completion}
 
 pub same_cons : (a b : ℕ) (xs ys : List ℕ) → a ≡ b → xs ≡ ys → ◌≡◌ {A = List ℕ} (a ∷ xs) (b ∷ ys)
 same_cons a b xs ys e f = rw (e, f) refl
-
--- a byte, and bytes behind it
-pub record TakesByte (bytes : List ℕ) (byte : ℕ) (rest : List ℕ) : Type 0 where
-  pub parts : bytes ≡ byte ∷ rest
-  pub small : byte < 256
-  pub rest_fits : IsBytes rest
-
-pub byte_takes : (bytes : List ℕ) (x : ℕ × List ℕ) → IsBytes bytes → byte_at bytes ≡ Ok x → TakesByte bytes x.0 x.1
-unfolding byte_at
-byte_takes [] x fits e = absurd cc
-byte_takes (byte ∷ rest) x fits e =
-    subst (λ (y : ℕ × List ℕ). TakesByte (byte ∷ rest) y.0 y.1) (ok_is (byte, rest) x e) (record { parts = refl; small = fits 0; rest_fits = IsBytes-drop 1 (byte ∷ rest) fits })
 
 -- ---- version and count
 
 pub version_takes : (bytes rest : List ℕ) → IsBytes bytes → version_at bytes ≡ Ok rest → TakesByte bytes 1 rest
 unfolding version_at
 version_takes bytes rest fits e =
-    by_ok (byte_at bytes) _ rest e (λ version e0 k0.
-    let t = byte_takes bytes version fits e0 in
-    let g = met (eqb version.0 1) (Version version.0) version.1 rest k0 in
+    by_ok (byte_at Cut bytes) _ rest e (λ version e0 k0.
+    let t = byte_takes Cut bytes version fits e0 in
+    let g = kept_by_test (eqb version.0 1) (Version version.0) version.1 rest k0 in
     subst (TakesByte bytes 1) g.1 (subst (λ n. TakesByte bytes n version.1) (eqb-true _ _ g.0) t))
 
 pub version_again : (rest : List ℕ) → version_at (1 ∷ rest) ≡ Ok rest
@@ -86,10 +36,10 @@ version_again rest = refl
 pub count_takes : (bytes : List ℕ) (x : ℕ × List ℕ) → IsBytes bytes → count_at bytes ≡ Ok x → Takes bytes (to_be_bytes w32 x.0) x.1 × (1 ≤ x.0) × (x.0 < 2 ^ 32)
 unfolding count_at
 count_takes bytes x fits e =
-    by_ok (part_at 4 bytes) _ x e (λ part e0 k0.
-    let t = part_takes 4 bytes part fits e0 in
+    by_ok (part_at Cut 4 bytes) _ x e (λ part e0 k0.
+    let t = part_takes Cut 4 bytes part fits e0 in
     let count = from_be_bytes w32 part.0 in
-    let g = passed (eqb count 0) Form (count, part.1) x k0 in
+    let g = no_fault (eqb count 0) Form (count, part.1) x k0 in
     let text : to_be_bytes w32 count ≡ part.0 = be_bytes_4 part.0 count t.1 t.0.text_fits refl in
     let few : count < 2 ^ 32 = omega (arith, t.0.text_fits 0, t.0.text_fits 1, t.0.text_fits 2, t.0.text_fits 3) in
     subst (λ (y : ℕ × List ℕ). Takes bytes (to_be_bytes w32 y.0) y.1 × (1 ≤ y.0) × (y.0 < 2 ^ 32)) g.1
@@ -99,7 +49,7 @@ count_read : (count : ℕ) (part rest : List ℕ) → 1 ≤ count → length par
 unfolding count_at
 count_read count part rest some len is =
     let not_none : eqb count 0 ≡ false = ne_eqb count 0 (λ h. omega arith) in
-    rw (part_again 4 part rest len, is, not_none) refl
+    rw (part_again Cut 4 part rest len, is, not_none) refl
 
 pub count_again : (count : ℕ) (rest : List ℕ) → 1 ≤ count → count < 2 ^ 32 → count_at (to_be_bytes w32 count ++ rest) ≡ Ok (count, rest)
 count_again count rest some few = count_read count (to_be_bytes w32 count) rest some refl (from_be_bytes-to_be_bytes_4 count few)
@@ -113,10 +63,10 @@ no_or false b h = (refl, h)
 pub descriptor_takes : (bytes : List ℕ) (x : ℕ × List ℕ) → IsBytes bytes → descriptor_at bytes ≡ Ok x → TakesByte bytes x.0 x.1 × (is_odd (x.0 / 16) ≡ false) × (x.0 % 8 ≤ 4)
 unfolding descriptor_at
 descriptor_takes bytes x fits e =
-    by_ok (byte_at bytes) _ x e (λ d e0 k0.
-    let g = passed (is_odd (d.0 / 16) || ltb 4 (d.0 % 8)) Form d x k0 in
+    by_ok (byte_at Cut bytes) _ x e (λ d e0 k0.
+    let g = no_fault (is_odd (d.0 / 16) || ltb 4 (d.0 % 8)) Form d x k0 in
     let h = no_or _ _ g.0 in
-    subst (λ (y : ℕ × List ℕ). TakesByte bytes y.0 y.1 × (is_odd (y.0 / 16) ≡ false) × (y.0 % 8 ≤ 4)) g.1 (byte_takes bytes d fits e0, h.0, ltb-false _ _ h.1))
+    subst (λ (y : ℕ × List ℕ). TakesByte bytes y.0 y.1 × (is_odd (y.0 / 16) ≡ false) × (y.0 % 8 ≤ 4)) g.1 (byte_takes Cut bytes d fits e0, h.0, ltb-false _ _ h.1))
 
 pub descriptor_again : (d : ℕ) (rest : List ℕ) → is_odd (d / 16) ≡ false → d % 8 ≤ 4 → descriptor_at (d ∷ rest) ≡ Ok (d, rest)
 unfolding descriptor_at byte_at
@@ -156,12 +106,12 @@ odd-not false = refl
 pub bits_take : (bytes : List ℕ) (x : List Bool × List ℕ) → IsBytes bytes → bits_at bytes ≡ Ok x → Takes bytes (descriptor2 x.0 ∷ data_of x.0) x.1 × (length x.0 ≤ 1023)
 unfolding bits_at
 bits_take bytes x fits e =
-    by_ok (byte_at bytes) _ x e (λ d e0 k0.
-    by_ok (part_at ((d.0 + 1) / 2) d.1) _ x k0 (λ part e1 k1.
-    let t0 = byte_takes bytes d fits e0 in
-    let t1 = part_takes ((d.0 + 1) / 2) d.1 part t0.rest_fits e1 in
+    by_ok (byte_at Cut bytes) _ x e (λ d e0 k0.
+    by_ok (part_at Cut ((d.0 + 1) / 2) d.1) _ x k0 (λ part e1 k1.
+    let t0 = byte_takes Cut bytes d fits e0 in
+    let t1 = part_takes Cut ((d.0 + 1) / 2) d.1 part t0.rest_fits e1 in
     let whole = not (is_odd d.0) in
-    let g = passed (lacks_completion d.0 part.0) Form (data_bits whole part.0, part.1) x k1 in
+    let g = no_fault (lacks_completion d.0 part.0) Form (data_bits whole part.0, part.1) x k1 in
     let held = completed d.0 part.0 whole t1.0.text_fits t1.1 t0.small (odd-not (is_odd d.0)) g.0 in
     let text : part.0 ≡ data_of (data_bits whole part.0) = sym (data_of-data_bits part.0 t1.0.text_fits whole held.0) in
     let first : Takes bytes (d.0 ∷ part.0) part.1 = record {
@@ -182,16 +132,16 @@ unfolding bits_at byte_at
 bits_again bits rest few =
     let len : length (data_of bits) ≡ (descriptor2 bits + 1) / 2 = omega (arith, length-data_of bits) in
     let whole = even-by (length bits) _ refl in
-    rw (part_again ((descriptor2 bits + 1) / 2) (data_of bits) rest len, lacks-data_of bits _ (IsBitData-data_of bits few) whole, whole, data_bits-data_of bits few) refl
+    rw (part_again Cut ((descriptor2 bits + 1) / 2) (data_of bits) rest len, lacks-data_of bits _ (IsBitData-data_of bits few) whole, whole, data_bits-data_of bits few) refl
 
 -- ---- a child's mask
 
 pub mask_takes : (bytes : List ℕ) (x : ℕ × List ℕ) → IsBytes bytes → mask_at bytes ≡ Ok x → TakesByte bytes x.0 x.1 × (x.0 ≤ 7)
 unfolding mask_at
 mask_takes bytes x fits e =
-    by_ok (byte_at bytes) _ x e (λ m e0 k0.
-    let g = passed (ltb 7 m.0) Form m x k0 in
-    subst (λ (y : ℕ × List ℕ). TakesByte bytes y.0 y.1 × (y.0 ≤ 7)) g.1 (byte_takes bytes m fits e0, ltb-false _ _ g.0))
+    by_ok (byte_at Cut bytes) _ x e (λ m e0 k0.
+    let g = no_fault (ltb 7 m.0) Form m x k0 in
+    subst (λ (y : ℕ × List ℕ). TakesByte bytes y.0 y.1 × (y.0 ≤ 7)) g.1 (byte_takes Cut bytes m fits e0, ltb-false _ _ g.0))
 
 pub mask_again : (mask : ℕ) (rest : List ℕ) → mask ≤ 7 → mask_at (mask ∷ rest) ≡ Ok (mask, rest)
 unfolding mask_at byte_at

@@ -1,6 +1,5 @@
 pub mod KidTexts
 pub mod DataFaults
-pub mod KidLoop
 pub mod StoredLevels
 pub mod Fields
 pub mod KidReading

@@ -19,9 +19,11 @@ use Rattle.cd_record.specs.declared.record_fault.RecordFault.{RecordFault}
 use Rattle.cd_record.specs.declared.record_fault.RecordFault.TheVariants.{Extra, Form}
 use Rattle.cd_record.specs.RecordText.{kid_text, record_text}
 use Rattle.cd_record.specs.Records.{IsInfo, IsRecord}
-use Rattle.cd_record.specs.RecordReading.{Gives, version_at, count_at, descriptor_at, bits_at, kids_at, judged, record_in}
-use Rattle.cd_record.proofs.Fields.{by_ok, ok_is, met, version_takes, version_again, count_takes, count_again, descriptor_takes, descriptor_again, bits_take, bits_again}
-use Rattle.cd_record.proofs.KidReading.{kids_again, kids_take}
+use Rattle.cd_record.specs.RecordReading.{version_at, count_at, descriptor_at, bits_at, kid_at, record_of, record_in}
+use Rattle.cd_base.specs.Reading.{Gives, each_at}
+use Rattle.cd_base.proofs.ReadingLaws.{by_ok, ok_is, kept_by_test}
+use Rattle.cd_record.proofs.Fields.{version_takes, version_again, count_takes, count_again, descriptor_takes, descriptor_again, bits_take, bits_again}
+use Rattle.cd_record.proofs.KidReading.{kids_again, kids_take, all_kids, all_steady, all_infos}
 
 -- the fields one behind the other
 joined : ℕ → ℕ → List Bool → List ChildInfo → List ℕ
@@ -55,16 +57,16 @@ descriptor-is d false flag stored = omega (arith, eqb-false _ _ flag, eqb-false 
 
 -- ---- what is spelled is read
 
-judged-good : (count mask : ℕ) (f : FaceView) (fault : Option CellFault) → fault ≡ None → mask_of_face f ≡ mask → judged count mask f fault ≡ Ok (record { count = count; face = f })
-judged-good count mask f None e is = rw (is, eq-eqb mask mask refl) refl
-judged-good count mask f (Some fault) e is = absurd cc
+record_of-good : (count mask : ℕ) (f : FaceView) (fault : Option CellFault) → fault ≡ None → mask_of_face f ≡ mask → record_of count mask f fault ≡ Ok (record { count = count; face = f })
+record_of-good count mask f None e is = rw (is, eq-eqb mask mask refl) refl
+record_of-good count mask f (Some fault) e is = absurd cc
 
 joined-read : (count d : ℕ) (bits : List Bool) (kids : List ChildInfo) → 1 ≤ count → count < 2 ^ 32 → is_odd (d / 16) ≡ false → d % 8 ≡ length kids → length kids ≤ 4 → length bits ≤ 1023
     → AllByRecursion IsSteady kids → AllByRecursion IsInfo kids
-    → record_in (joined count d bits kids) ≡ judged count (d / 32) (record { exotic = is_odd (d / 8); bits = bits; kids = kids }) (face_fault (record { exotic = is_odd (d / 8); bits = bits; kids = kids }))
+    → record_in (joined count d bits kids) ≡ record_of count (d / 32) (record { exotic = is_odd (d / 8); bits = bits; kids = kids }) (face_fault (record { exotic = is_odd (d / 8); bits = bits; kids = kids }))
 unfolding record_in joined
 joined-read count d bits kids some few stored refs four short steady infos =
-    let last : kids_at (length kids) (flat_map kid_text kids) ≡ Ok (kids, []) = ap (kids_at (length kids)) (sym (append-nil (flat_map kid_text kids))) ∙ kids_again kids [] steady infos in
+    let last : each_at kid_at (length kids) (flat_map kid_text kids) ≡ Ok (kids, []) = ap (each_at kid_at (length kids)) (sym (append-nil (flat_map kid_text kids))) ∙ kids_again kids [] (all_kids kids steady infos) in
     rw (
       version_again (to_be_bytes w32 count ++ (d ∷ (descriptor2 bits ∷ data_of bits ++ flat_map kid_text kids))),
       count_again count (d ∷ (descriptor2 bits ∷ data_of bits ++ flat_map kid_text kids)) some few,
@@ -83,9 +85,9 @@ record_again r fit =
     let with_flag : Bool → FaceView = λ e. record { exotic = e; bits = f.bits; kids = f.kids } in
     ap record_in (text_is r.count f)
     ∙ joined-read r.count d f.bits f.kids fit.some fit.few tells.not_stored tells.refs fit.face.kids fit.face.bits fit.steady fit.infos
-    ∙ ap (λ m. judged r.count m (with_flag (is_odd (d / 8))) (face_fault (with_flag (is_odd (d / 8))))) tells.mask_is
-    ∙ ap (λ e. judged r.count mask (with_flag e) (face_fault (with_flag e))) tells.flag
-    ∙ judged-good r.count mask f (face_fault f) (face_fault-fit f fit.face.fit) refl
+    ∙ ap (λ m. record_of r.count m (with_flag (is_odd (d / 8))) (face_fault (with_flag (is_odd (d / 8))))) tells.mask_is
+    ∙ ap (λ e. record_of r.count mask (with_flag e) (face_fault (with_flag e))) tells.flag
+    ∙ record_of-good r.count mask f (face_fault f) (face_fault-fit f fit.face.fit) refl
 
 -- ---- what is read is spelled so
 
@@ -96,10 +98,10 @@ ended false x r e = absurd cc
 abbrev pub IsRead : List ℕ → Record → Type 0
 IsRead bytes r = IsRecord r × (bytes ≡ record_text r.count r.face)
 
-judged-takes : (count mask : ℕ) (f : FaceView) (fault : Option CellFault) (r : Record) → judged count mask f fault ≡ Ok r → (fault ≡ None) × (mask_of_face f ≡ mask) × (record { count = count; face = f } ≡ r)
-judged-takes count mask f None r e =
-    let g = met (eqb (mask_of_face f) mask) Form (record { count = count; face = f }) r e in (refl, eqb-true _ _ g.0, g.1)
-judged-takes count mask f (Some fault) r e = absurd cc
+record_of-takes : (count mask : ℕ) (f : FaceView) (fault : Option CellFault) (r : Record) → record_of count mask f fault ≡ Ok r → (fault ≡ None) × (mask_of_face f ≡ mask) × (record { count = count; face = f } ≡ r)
+record_of-takes count mask f None r e =
+    let g = kept_by_test (eqb (mask_of_face f) mask) Form (record { count = count; face = f }) r e in (refl, eqb-true _ _ g.0, g.1)
+record_of-takes count mask f (Some fault) r e = absurd cc
 
 record_takes : (bytes : List ℕ) (r : Record) → IsBytes bytes → record_in bytes ≡ Ok r → IsRead bytes r
 unfolding record_in joined
@@ -108,29 +110,29 @@ record_takes bytes r fits e =
     by_ok (count_at front) _ r k0 (λ count e1 k1.
     by_ok (descriptor_at count.1) _ r k1 (λ d e2 k2.
     by_ok (bits_at d.1) _ r k2 (λ bits e3 k3.
-    by_ok (kids_at (d.0 % 8) bits.1) _ r k3 (λ kids e4 k4.
+    by_ok (each_at kid_at (d.0 % 8) bits.1) _ r k3 (λ kids e4 k4.
     let face : FaceView = record { exotic = is_odd (d.0 / 8); bits = bits.0; kids = kids.0 } in
-    let g = ended (eqb (length kids.1) 0) (judged count.0 (d.0 / 32) face (face_fault face)) r k4 in
+    let g = ended (eqb (length kids.1) 0) (record_of count.0 (d.0 / 32) face (face_fault face)) r k4 in
     let t0 = version_takes bytes front fits e0 in
     let t1 = count_takes front count t0.rest_fits e1 in
     let t2 = descriptor_takes count.1 d t1.0.rest_fits e2 in
     let t3 = bits_take d.1 bits t2.0.rest_fits e3 in
     let t4 = kids_take (d.0 % 8) bits.1 kids t3.0.rest_fits e4 in
     let nothing : kids.1 ≡ [] = nil_from_length kids.1 (eqb-true _ _ g.0) in
-    let last : bits.1 ≡ flat_map kid_text kids.0 = t4.taken.parts ∙ ap (λ (x : List ℕ). flat_map kid_text kids.0 ++ x) nothing ∙ append-nil (flat_map kid_text kids.0) in
-    let judgement = judged-takes count.0 (d.0 / 32) face (face_fault face) r g.1 in
+    let last : bits.1 ≡ flat_map kid_text kids.0 = t4.0.parts ∙ ap (λ (x : List ℕ). flat_map kid_text kids.0 ++ x) nothing ∙ append-nil (flat_map kid_text kids.0) in
+    let judgement = record_of-takes count.0 (d.0 / 32) face (face_fault face) r g.1 in
     let described : d.0 ≡ descriptor1 face (mask_of_face face) =
     sym (descriptor-is d.0 (is_odd (d.0 / 8)) refl t2.1)
-    ∙ ap (λ n. n + (if is_odd (d.0 / 8) then 8 else 0) + 32 * (d.0 / 32)) (sym t4.counted)
+    ∙ ap (λ n. n + (if is_odd (d.0 / 8) then 8 else 0) + 32 * (d.0 / 32)) (sym t4.1)
     ∙ ap (λ m. length kids.0 + (if is_odd (d.0 / 8) then 8 else 0) + 32 * m) (sym judgement.1) in
     let bytes_are : bytes ≡ joined count.0 d.0 bits.0 kids.0 =
     t0.parts ∙ ap (λ (x : List ℕ). 1 ∷ x) (t1.0.parts ∙ ap (λ (x : List ℕ). to_be_bytes w32 count.0 ++ x) (t2.0.parts ∙ ap (λ (x : List ℕ). d.0 ∷ x) (t3.0.parts ∙ ap (λ (x : List ℕ). descriptor2 bits.0 ∷ data_of bits.0 ++ x) last))) in
     let fit : IsRecord (record { count = count.0; face = face }) = record {
       some = t1.1;
       few = t1.2;
-      face = record { bits = t3.1; kids = omega (arith, t4.counted, t2.2); fit = fit_from_no_fault face judgement.0 };
-      steady = t4.steady;
-      infos = t4.infos;
+      face = record { bits = t3.1; kids = omega (arith, t4.1, t2.2); fit = fit_from_no_fault face judgement.0 };
+      steady = all_steady kids.0 t4.2;
+      infos = all_infos kids.0 t4.2;
     } in
     let read : IsRead bytes (record { count = count.0; face = face }) = (fit, bytes_are ∙ ap (λ n. joined count.0 n bits.0 kids.0) described ∙ sym (text_is count.0 face)) in
     subst (IsRead bytes) judgement.2 read)))))

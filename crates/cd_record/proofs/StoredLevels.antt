@@ -5,20 +5,20 @@ use Rattle.std.proofs.lemmas.Bool.{agree_below_at, or_cases, eqb-true, ltb-true,
 use Rattle.std.proofs.lemmas.List.{take-append-drop, drop-drop, take_at, drop_at, length-append, drop_all}
 use Rattle.cd_cell.specs.Masks.{is_significant, bit_count}
 use Rattle.cd_cell.specs.StoredText.{levels_of}
-use Rattle.cd_record.specs.RecordReading.{place_of}
+use Rattle.cd_record.specs.RecordReading.{place_at_level}
 
 -- ---- the places of the significant levels
 
 -- the level whose hash stands in the place that level l names
 abbrev level_at : ℕ → ℕ → ℕ
-level_at mask l = get_or (levels_of mask) (place_of mask l) 0
+level_at mask l = get_or (levels_of mask) (place_at_level mask l) 0
 
 -- a level above 0 that is significant stands in its own place; one that isn't has the place of the level below
 abbrev is_placed : ℕ → ℕ → Bool
 is_placed l mask = not (is_significant mask (l + 1)) || eqb (level_at mask (l + 1)) (l + 1)
 
 abbrev shares_place : ℕ → ℕ → Bool
-shares_place l mask = is_significant mask (l + 1) || eqb (place_of mask (l + 1)) (place_of mask l)
+shares_place l mask = is_significant mask (l + 1) || eqb (place_at_level mask (l + 1)) (place_at_level mask l)
 
 placed-all : (l mask : ℕ) → l < 3 → mask < 8 → is_placed l mask ≡ true
 placed-all zero mask lt small = agree_below_at (is_placed 0) (λ _. true) 8 mask refl small
@@ -40,32 +40,32 @@ level_at-own mask l lt small own =
     not-true true h = absurd (true≢false (sym h))
     not-true false h = refl
 
-pub place_of-below : (mask l : ℕ) → l < 3 → mask < 8 → is_significant mask (l + 1) ≡ false → place_of mask (l + 1) ≡ place_of mask l
-place_of-below mask l lt small not_own =
+pub place_at_level-below : (mask l : ℕ) → l < 3 → mask < 8 → is_significant mask (l + 1) ≡ false → place_at_level mask (l + 1) ≡ place_at_level mask l
+place_at_level-below mask l lt small not_own =
     ⊎_elim (λ h. absurd (true≢false (sym h ∙ not_own))) (eqb-true _ _) (or_cases _ _ (shares-all l mask lt small))
 
 pub length-levels_of : (mask : ℕ) → mask < 8 → length (levels_of mask) ≡ bit_count mask + 1
 length-levels_of mask small = eqb-true _ _ (agree_below_at (λ m. eqb (length (levels_of m)) (bit_count m + 1)) (λ _. true) 8 mask refl small)
 
 abbrev has_place : ℕ → ℕ → Bool
-has_place l mask = ltb (place_of mask l) (length (levels_of mask))
+has_place l mask = ltb (place_at_level mask l) (length (levels_of mask))
 
-pub place_of-lt : (mask l : ℕ) → mask < 8 → l ≤ 3 → place_of mask l < length (levels_of mask)
-place_of-lt mask zero small le = ltb-true _ _ (agree_below_at (has_place 0) (λ _. true) 8 mask refl small)
-place_of-lt mask (suc zero) small le = ltb-true _ _ (agree_below_at (has_place 1) (λ _. true) 8 mask refl small)
-place_of-lt mask (suc (suc zero)) small le = ltb-true _ _ (agree_below_at (has_place 2) (λ _. true) 8 mask refl small)
-place_of-lt mask (suc (suc (suc zero))) small le = ltb-true _ _ (agree_below_at (has_place 3) (λ _. true) 8 mask refl small)
-place_of-lt mask (suc (suc (suc (suc l)))) small le = absurd (omega arith)
+pub place_at_level-lt : (mask l : ℕ) → mask < 8 → l ≤ 3 → place_at_level mask l < length (levels_of mask)
+place_at_level-lt mask zero small le = ltb-true _ _ (agree_below_at (has_place 0) (λ _. true) 8 mask refl small)
+place_at_level-lt mask (suc zero) small le = ltb-true _ _ (agree_below_at (has_place 1) (λ _. true) 8 mask refl small)
+place_at_level-lt mask (suc (suc zero)) small le = ltb-true _ _ (agree_below_at (has_place 2) (λ _. true) 8 mask refl small)
+place_at_level-lt mask (suc (suc (suc zero))) small le = ltb-true _ _ (agree_below_at (has_place 3) (λ _. true) 8 mask refl small)
+place_at_level-lt mask (suc (suc (suc (suc l)))) small le = absurd (omega arith)
 
-first-place : (mask : ℕ) → mask < 8 → place_of mask 0 ≡ 0
-first-place mask small = eqb-true _ _ (agree_below_at (λ m. eqb (place_of m 0) 0) (λ _. true) 8 mask refl small)
+first-place : (mask : ℕ) → mask < 8 → place_at_level mask 0 ≡ 0
+first-place mask small = eqb-true _ _ (agree_below_at (λ m. eqb (place_at_level m 0) 0) (λ _. true) 8 mask refl small)
 
 -- ---- what is the same at a level that isn't significant
 
 module _ {X : Type 0} (mask : ℕ) (f : ℕ → X) (small : mask < 8) (steady : (l : ℕ) → l < 3 → is_significant mask (l + 1) ≡ false → f (l + 1) ≡ f l) where
   step : (l : ℕ) (own : Bool) → l < 3 → is_significant mask (l + 1) ≡ own → f (level_at mask l) ≡ f l → f (level_at mask (l + 1)) ≡ f (l + 1)
   step l true lt is below = ap f (level_at-own mask l lt small is)
-  step l false lt is below = ap (λ p. f (get_or (levels_of mask) p 0)) (place_of-below mask l lt small is) ∙ below ∙ sym (steady l lt is)
+  step l false lt is below = ap (λ p. f (get_or (levels_of mask) p 0)) (place_at_level-below mask l lt small is) ∙ below ∙ sym (steady l lt is)
 
   pub value-at : (l : ℕ) → l ≤ 3 → f (level_at mask l) ≡ f l
   value-at zero le = ap (λ p. f (get_or (levels_of mask) p 0)) (first-place mask small)
@@ -108,7 +108,7 @@ pieces n count bytes pieced is long =
     is ∙ rejoined-is n count 0 bytes (long ∙ total) ∙ ap (λ k. drop k bytes) none
 
 -- what stands in the places of the significant levels is all of the bytes
-pub pieces-of_levels : (n mask : ℕ) (bytes : List ℕ) → mask < 8 → length bytes ≡ n * (bit_count mask + 1) → flat_map (λ l. take n (drop (n * place_of mask l) bytes)) (levels_of mask) ≡ bytes
+pub pieces-of_levels : (n mask : ℕ) (bytes : List ℕ) → mask < 8 → length bytes ≡ n * (bit_count mask + 1) → flat_map (λ l. take n (drop (n * place_at_level mask l) bytes)) (levels_of mask) ≡ bytes
 unfolding rejoined
 pieces-of_levels n zero bytes small long = pieces n 1 bytes _ refl long
 pieces-of_levels n (suc zero) bytes small long = pieces n 2 bytes _ refl long

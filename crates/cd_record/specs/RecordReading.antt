@@ -1,7 +1,8 @@
--- Reading a record from left to right, with the first fault that is met.
+-- Trusted: reading a record from left to right, with the first fault that is met.
 use Rattle.std.specs.Prelude.{◌≡◌, ℕ, zero, suc, ◌+◌, ◌-◌, ◌*◌, ◌/◌, ◌%◌, ◌==◌, nat_lt, Bool, not, ◌&&◌, ◌||◌, List, [], ◌∷◌, length, take, drop, slice_index, Option, Some, None, Result, Ok, Err, if◌then◌else◌}
 use Rattle.std.specs.Int.{w16, w32, from_be_bytes}
 use Rattle.cd_base.specs.declared.hash.Hash256.{Hash256}
+use Rattle.cd_base.specs.Reading.{◌>>=◌, part_at, byte_at, each_at}
 use Rattle.cd_cell.specs.declared.info.ChildInfo.{ChildInfo}
 use Rattle.cd_cell.specs.declared.cell_fault.CellFault.{CellFault}
 use Rattle.cd_cell.specs.Masks.{lowest_bits, bit_count}
@@ -13,35 +14,22 @@ use Rattle.cd_record.specs.declared.record.Record.{Record}
 use Rattle.cd_record.specs.declared.record_fault.RecordFault.{RecordFault}
 use Rattle.cd_record.specs.declared.record_fault.RecordFault.TheVariants.{Version, Cut, Extra, Form, Cell}
 
-infixl 10 ◌>>=◌
-abbrev pub ◌>>=◌ : {A B : Type 0} → Result A RecordFault → (A → Result B RecordFault) → Result B RecordFault
-(Ok x) >>= f = f x
-(Err e) >>= f = Err e
-
--- so many bytes
-unfoldable pub part_at : ℕ → List ℕ → Result (List ℕ × List ℕ) RecordFault
-part_at len bytes = if nat_lt (length bytes) len then Err Cut else Ok (take len bytes, drop len bytes)
-
-unfoldable pub byte_at : List ℕ → Result (ℕ × List ℕ) RecordFault
-byte_at [] = Err Cut
-byte_at (byte ∷ rest) = Ok (byte, rest)
-
 -- the first byte
 unfoldable pub version_at : List ℕ → Result (List ℕ) RecordFault
 version_at bytes = do
-  version ← byte_at bytes
+  version ← byte_at Cut bytes
   if version.0 == 1 then Ok version.1 else Err (Version version.0)
 
 -- four bytes of count, which isn't 0
 unfoldable pub count_at : List ℕ → Result (ℕ × List ℕ) RecordFault
 count_at bytes = do
-  part ← part_at 4 bytes
+  part ← part_at Cut 4 bytes
   if from_be_bytes w32 part.0 == 0 then Err Form else Ok (from_be_bytes w32 part.0, part.1)
 
 -- the first descriptor: at most four references, and no stored hashes
 unfoldable pub descriptor_at : List ℕ → Result (ℕ × List ℕ) RecordFault
 descriptor_at bytes = do
-  descriptor ← byte_at bytes
+  descriptor ← byte_at Cut bytes
   if is_odd (descriptor.0 / 16) || nat_lt 4 (descriptor.0 % 8) then Err Form else Ok descriptor
 
 -- whether data of an odd second descriptor have no completion in their last byte
@@ -51,19 +39,19 @@ lacks_completion descriptor bytes = is_odd descriptor && (slice_index bytes (len
 -- the second descriptor, and the data
 unfoldable pub bits_at : List ℕ → Result (List Bool × List ℕ) RecordFault
 bits_at bytes = do
-  descriptor ← byte_at bytes
-  part ← part_at ((descriptor.0 + 1) / 2) descriptor.1
+  descriptor ← byte_at Cut bytes
+  part ← part_at Cut ((descriptor.0 + 1) / 2) descriptor.1
   if lacks_completion descriptor.0 part.0 then Err Form else Ok (data_bits (not (is_odd descriptor.0)) part.0, part.1)
 
 -- the place of a level's hash among those at the significant levels
-abbrev pub place_of : ℕ → ℕ → ℕ
-place_of mask l = bit_count (lowest_bits mask l)
+abbrev pub place_at_level : ℕ → ℕ → ℕ
+place_at_level mask l = bit_count (lowest_bits mask l)
 
 abbrev pub hash_in : ℕ → List ℕ → ℕ → Hash256
-hash_in mask hashes l = record { 0 = take 32 (drop (32 * place_of mask l) hashes) }
+hash_in mask hashes l = record { 0 = take 32 (drop (32 * place_at_level mask l) hashes) }
 
 abbrev pub depth_in : ℕ → List ℕ → ℕ → ℕ
-depth_in mask depths l = from_be_bytes w16 (take 2 (drop (2 * place_of mask l) depths))
+depth_in mask depths l = from_be_bytes w16 (take 2 (drop (2 * place_at_level mask l) depths))
 
 -- what a child shows, by its hashes and depths at the significant levels
 abbrev pub info_in : ℕ → List ℕ → List ℕ → ChildInfo
@@ -76,28 +64,21 @@ info_in mask hashes depths = record {
 -- a child's mask
 unfoldable pub mask_at : List ℕ → Result (ℕ × List ℕ) RecordFault
 mask_at bytes = do
-  mask ← byte_at bytes
+  mask ← byte_at Cut bytes
   if nat_lt 7 mask.0 then Err Form else Ok mask
 
 -- a child: its mask, its hashes, and its depths
 unfoldable pub kid_at : List ℕ → Result (ChildInfo × List ℕ) RecordFault
 kid_at bytes = do
   mask ← mask_at bytes
-  hashes ← part_at (32 * (bit_count mask.0 + 1)) mask.1
-  depths ← part_at (2 * (bit_count mask.0 + 1)) hashes.1
+  hashes ← part_at Cut (32 * (bit_count mask.0 + 1)) mask.1
+  depths ← part_at Cut (2 * (bit_count mask.0 + 1)) hashes.1
   Ok (info_in mask.0 hashes.0 depths.0, depths.1)
 
-unfoldable pub kids_at : ℕ → List ℕ → Result (List ChildInfo × List ℕ) RecordFault
-kids_at zero bytes = Ok ([], bytes)
-kids_at (suc count) bytes = do
-  kid ← kid_at bytes
-  others ← kids_at count kid.1
-  Ok (kid.0 ∷ others.0, others.1)
-
 -- a face that has no fault of its own, and the mask that its text states
-abbrev pub judged : ℕ → ℕ → FaceView → Option CellFault → Result Record RecordFault
-judged count mask face (Some fault) = Err (Cell fault)
-judged count mask face None = if mask_of_face face == mask then Ok (record { count = count; face = face }) else Err Form
+abbrev pub record_of : ℕ → ℕ → FaceView → Option CellFault → Result Record RecordFault
+record_of count mask face (Some fault) = Err (Cell fault)
+record_of count mask face None = if mask_of_face face == mask then Ok (record { count = count; face = face }) else Err Form
 
 -- all of the bytes
 unfoldable pub record_in : List ℕ → Result Record RecordFault
@@ -106,13 +87,8 @@ record_in bytes = do
   count ← count_at front
   descriptor ← descriptor_at count.1
   bits ← bits_at descriptor.1
-  kids ← kids_at (descriptor.0 % 8) bits.1
+  kids ← each_at kid_at (descriptor.0 % 8) bits.1
   if length kids.1 == 0
       then (let face : FaceView = record { exotic = is_odd (descriptor.0 / 8); bits = bits.0; kids = kids.0 } in
-      judged count.0 (descriptor.0 / 32) face (face_fault face))
+      record_of count.0 (descriptor.0 / 32) face (face_fault face))
       else Err Extra
-
--- What a call answered, seen by view, is what reading gives.
-abbrev pub Gives : {X Y : Type 0} → (X → Y) → Result X RecordFault → Result Y RecordFault → Type 0
-Gives view (Ok x) read = read ≡ Ok (view x)
-Gives view (Err e) read = read ≡ Err e

@@ -1,51 +1,29 @@
 ghost use Rattle.std.specs.Prelude.{◌≡◌, ℕ, ◌+◌, ◌*◌, ◌%◌, ◌≤◌, ◌<◌, length, take, IfOk};
+ghost use Rattle.cd_base.specs.Reading.{Gives, each_at};
 ghost use Rattle.cd_cell.specs.CellFaults.{face_fault};
 ghost use Rattle.cd_cell.specs.Masks.{bit_count};
 ghost use Rattle.cd_record.specs.declared.record.Record.{Record};
 ghost use Rattle.cd_record.specs.RecordText.{record_text};
 ghost use Rattle.cd_record.specs.Records.{IsRecord};
 ghost use Rattle.cd_record.specs.RecordReading as spec;
-ghost use Rattle.cd_record.specs.RecordReading.{Gives};
 
 use crate::record::Record;
 use crate::record_fault::RecordFault;
-use cd_base::Hash256;
+use cd_base::{Hash256, byte_at, part_at};
 use cd_cell::{Bits, ChildInfo, Face, Mask};
-
-#[tactic(auto, unfolding(crate::specs::RecordReading::part_at))]
-fn part_at(len: usize, bytes: &[u8]) -> Result<(&[u8], &[u8]), RecordFault>
-    ensures read { Gives (λ x. (x.0.now, x.1.now)) result (spec.part_at len bytes.now) }
-    ensures long { IfOk result (λ x. length x.0.now ≡ len) }
-{
-    if bytes.len() < len {
-        return Err(RecordFault::Cut);
-    }
-    Ok(bytes.split_at(len))
-}
-
-#[tactic(auto, unfolding(crate::specs::RecordReading::byte_at))]
-fn byte_at(bytes: &[u8]) -> Result<(u8, &[u8]), RecordFault>
-    ensures read { Gives (λ x. (x.0, x.1.now)) result (spec.byte_at bytes.now) }
-    ensures small { IfOk result (λ x. x.0 < 256) }
-{
-    match bytes {
-        [] => Err(RecordFault::Cut),
-        [byte, rest @ ..] => Ok((*byte, rest)),
-    }
-}
 
 #[tactic(auto, unfolding(crate::specs::RecordReading::version_at))]
 fn version_at(bytes: &[u8]) -> Result<&[u8], RecordFault>
     ensures { Gives (λ rest. rest.now) result (spec.version_at bytes.now) }
 {
-    let (version, rest) = byte_at(bytes)?;
+    let (version, rest) = byte_at(RecordFault::Cut, bytes)?;
     if version != 1 {
         return Err(RecordFault::Version { value: version });
     }
     Ok(rest)
 }
 
-#[tactic(auto, unfolding(crate::specs::RecordReading::count_at, crate::specs::RecordReading::part_at))]
+#[tactic(auto, unfolding(crate::specs::RecordReading::count_at, cd_base::specs::Reading::part_at))]
 fn count_at(bytes: &[u8]) -> Result<(u32, &[u8]), RecordFault>
     ensures { Gives (λ x. (x.0, x.1.now)) result (spec.count_at bytes.now) }
 {
@@ -64,7 +42,7 @@ fn descriptor_at(bytes: &[u8]) -> Result<(u8, &[u8]), RecordFault>
     ensures read { Gives (λ x. (x.0, x.1.now)) result (spec.descriptor_at bytes.now) }
     ensures few { IfOk result (λ x. x.0 % 8 ≤ 4) }
 {
-    let (descriptor, rest) = byte_at(bytes)?;
+    let (descriptor, rest) = byte_at(RecordFault::Cut, bytes)?;
     if descriptor / 16 % 2 == 1 || descriptor % 8 > 4 {
         return Err(RecordFault::Form);
     }
@@ -75,8 +53,8 @@ fn descriptor_at(bytes: &[u8]) -> Result<(u8, &[u8]), RecordFault>
 fn bits_at(bytes: &[u8]) -> Result<(Bits, &[u8]), RecordFault>
     ensures { Gives (λ x. (x.0, x.1.now)) result (spec.bits_at bytes.now) }
 {
-    let (descriptor, rest) = byte_at(bytes)?;
-    let (part, rest) = part_at((descriptor as usize + 1) / 2, rest)?;
+    let (descriptor, rest) = byte_at(RecordFault::Cut, bytes)?;
+    let (part, rest) = part_at(RecordFault::Cut, (descriptor as usize + 1) / 2, rest)?;
     let Some(bits) = Bits::from_data(part, descriptor % 2 == 0) else {
         return Err(RecordFault::Form);
     };
@@ -87,7 +65,7 @@ fn bits_at(bytes: &[u8]) -> Result<(Bits, &[u8]), RecordFault>
 fn mask_at(bytes: &[u8]) -> Result<(Mask, &[u8]), RecordFault>
     ensures { Gives (λ x. (x.0, x.1.now)) result (spec.mask_at bytes.now) }
 {
-    let (byte, rest) = byte_at(bytes)?;
+    let (byte, rest) = byte_at(RecordFault::Cut, bytes)?;
     let Some(mask) = Mask::of(byte) else {
         return Err(RecordFault::Form);
     };
@@ -150,15 +128,15 @@ fn kid_at(bytes: &[u8]) -> Result<(ChildInfo, &[u8]), RecordFault>
         Err(fault) => return Err(fault),
     };
     let levels = usize::from(mask.count()) + 1;
-    let (hashes, rest) = part_at(32 * levels, rest)?;
-    let (depths, rest) = part_at(2 * levels, rest)?;
+    let (hashes, rest) = part_at(RecordFault::Cut, 32 * levels, rest)?;
+    let (depths, rest) = part_at(RecordFault::Cut, 2 * levels, rest)?;
     Ok((info_in(mask, hashes, depths), rest))
 }
 
 /// The children, with a filler behind them.
 fn kids_at(count: u8, bytes: &[u8]) -> Result<([ChildInfo; 4], &[u8]), RecordFault>
     requires { count ≤ 4 }
-    ensures { Gives (λ x. (take count x.0, x.1.now)) result (spec.kids_at count bytes.now) }
+    ensures { Gives (λ x. (take count x.0, x.1.now)) result (each_at spec.kid_at count bytes.now) }
 {
     let mut kids = [ChildInfo::NONE; 4];
     let mut rest = bytes;
@@ -174,8 +152,8 @@ fn kids_at(count: u8, bytes: &[u8]) -> Result<([ChildInfo; 4], &[u8]), RecordFau
 }
 
 /// A record, unless its face is at fault or another mask is stated.
-fn judged(count: u32, mask: u8, face: Face) -> Result<Record, RecordFault>
-    ensures { Gives (λ found. found) result (spec.judged count mask face (face_fault face)) }
+fn record_of(count: u32, mask: u8, face: Face) -> Result<Record, RecordFault>
+    ensures { Gives (λ found. found) result (spec.record_of count mask face (face_fault face)) }
 {
     if let Err(fault) = face.check() {
         return Err(RecordFault::Cell { fault });
@@ -210,7 +188,7 @@ fn record_at(bytes: &[u8]) -> Result<Record, RecordFault>
         return Err(RecordFault::Extra);
     }
     let face = Face::new(descriptor / 8 % 2 == 1, bits, &kids[..usize::from(refs)]);
-    judged(count, descriptor / 32, face)
+    record_of(count, descriptor / 32, face)
 }
 
 /// Reads a stored record. Takes no memory.

@@ -9,7 +9,7 @@ invariant-loop-bytes g l =
     record {
       gave : Gave (left l.fn.source) (left l.source) l.bytes.items;
       within : length l.bytes.items + l.room ≡ l.limit;
-      counted : g.S.Source.faults l.fn.source ≤ g.S.Source.faults l.source;
+      counted : g.S.Source.faults l.source ≡ g.S.Source.faults l.fn.source;
     }
 
 abbrev pub decreases-loop-bytes : goal.decreases-loop-bytes

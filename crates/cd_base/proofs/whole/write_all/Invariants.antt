@@ -1,4 +1,4 @@
-use Rattle.std.proofs.Common.{◌≤◌, ◌-◌, length, take}
+use Rattle.std.proofs.Common.{◌≡◌, ◌≤◌, ◌-◌, length, take}
 use Rattle.cd_base.specs.Told.{Got}
 use Rattle.cd_base.proofs.whole.write_all.Given as goal
 
@@ -9,7 +9,7 @@ invariant-loop-sent g l =
     record {
       within : l.sent ≤ length l.piece;
       got : Got (taken l.fn.sink) (taken l.sink) (take l.sent l.piece);
-      counted : g.O.Sink.faults l.fn.sink ≤ g.O.Sink.faults l.sink;
+      counted : g.O.Sink.faults l.sink ≡ g.O.Sink.faults l.fn.sink;
     }
 
 abbrev pub decreases-loop-sent : goal.decreases-loop-sent

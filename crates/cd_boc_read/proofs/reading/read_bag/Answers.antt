@@ -19,7 +19,7 @@ use Rattle.cd_boc_read.specs.Views.{text_views, parts_view}
 use Rattle.cd_boc_read.specs.CellFaults.{cells_fault}
 use Rattle.cd_cell.specs.Clashes.{clash_of}
 use Rattle.cd_boc_read.specs.BagFaults.{AreTexts}
-use Rattle.cd_boc_read.proofs.BagRead.{bag_read, some_texts, few_texts, are_texts, some_roots, count-cells, made, spelt, clash-told}
+use Rattle.cd_boc_read.proofs.BagRead.{bag_read, some_texts, few_texts, are_texts, some_roots, count-cells, count-stated, made, spelt, clash-told}
 use Rattle.cd_cell.proofs.ClashLaws.{clash_of-found}
 use Rattle.cd_boc_read.proofs.reading.read_bag.Goals as goal
 
@@ -169,3 +169,15 @@ returns-clause-rooted g c =
     let texts : List CellText = c.in-Ok.bag.texts.items in
     let read : bag_at bytes ≡ bag_read (f, text_views texts) = c.in-Ok.ensures in
     omega (arith, some_roots H bytes fit f texts read, ap length c.new.ensures.roots)
+
+pub returns-clause-counted : goal.returns-clause-counted
+returns-clause-counted g c =
+    let H = g.H.Hash32.digest_of in
+    let bytes = c.args.bytes.now in
+    let fit : IsBytes bytes = (λ i. omega (arith, c.type_inv.bytes i)) in
+    let f : Frame = frame_of (parts_view c.in-Ok.bag.frame) in
+    let texts : List CellText = c.in-Ok.bag.texts.items in
+    let read : bag_at bytes ≡ bag_read (f, text_views texts) = c.in-Ok.ensures in
+    let cells = c.in-Ok-cells_of.cells.faces.items in
+    let filled : cells ≡ faces_from H 0 (entries_of_texts (text_views texts)) = c.in-Ok-cells_of.ensures.faces ∙ ap (λ (x : List CellText). faces_from H 0 (entries_of_texts (text_views x))) c.deref.ensures.value in
+    ap length c.new.ensures.cells ∙ count-stated H bytes fit f texts read cells filled

@@ -10,5 +10,5 @@ unfolding bits_at
 returns-in_default c =
     let d = c.in_ok-descriptor.descriptor in
     let part = c.in_ok-part.part.now in
-    let lacks : lacks_completion d part ≡ true = lacks-by d part _ c.in_ok-part.ensures.long c.in_ok-descriptor.ensures.small refl (λ held. false≢true (c.in_default.ensures.found.1 held)) in
-    rw (c.in_ok-descriptor.ensures.read, c.in_ok-part.ensures.read, lacks) refl
+    let lacks : lacks_completion d part ≡ true = lacks-by d part _ c.in_ok-part.ensures.len c.in_ok-descriptor.ensures.small refl (λ held. false≢true (c.in_default.ensures.found.1 held)) in
+    rw (c.in_ok-descriptor.ensures.exact, c.in_ok-part.ensures.exact, lacks) refl
