@@ -17,7 +17,7 @@ use Rattle.cd_update.specs.EachOnce.{with_new, each_once}
 use Rattle.cd_update.specs.Places.{Place}
 use Rattle.cd_update.specs.Visits.{visit_at, place_of, visited}
 use Rattle.cd_update.specs.Pairing.{beside, unlike, visible_hash, wanted_at, misfit_at}
-use Rattle.cd_update.specs.Faults.{told}
+use Rattle.cd_update.specs.Answers.{refusal_of_pairing}
 use Rattle.cd_update.proofs.EachOnceLaws.{IsOnce, IsOnce-each_once, added-extends, fold-append, flat_map-append}
 use Rattle.cd_cell.proofs.ListTests.{true_or_false}
 use Rattle.cd_update.proofs.PlaceLaws.{visited-append, each_once-more}
@@ -91,13 +91,13 @@ module _ (H : List ℕ → Hash256) where
         (omega (arith, ap length split, length-append so_far more.0))
         (ap (λ hs. get_or hs place no_hash) split ∙ get_or_append_left so_far more.0 no_hash place below ∙ at)
 
-memory-told : (fault : PairFault) → told fault ≡ None → fault ≡ Memory
-memory-told (OldHash stated real) e = cc
-memory-told (OldDepth stated real) e = cc
-memory-told (OldHalf hash stored shown) e = cc
-memory-told Memory e = refl
+memory-unless_refused : (fault : PairFault) → refusal_of_pairing fault ≡ None → fault ≡ Memory
+memory-unless_refused (OldHash stated real) e = cc
+memory-unless_refused (OldDepth stated real) e = cc
+memory-unless_refused (OldHalf hash stored shown) e = cc
+memory-unless_refused Memory e = refl
 
--- a fault that tells a misfit tells the first one
-pub fault-told : (fault : PairFault) (here whole : Option Misfit) → told fault ≡ option_map (λ x. old_half x) here → ((m : Misfit) → here ≡ Some m → whole ≡ Some m) → (fault ≡ Memory) ⊎ (told fault ≡ option_map (λ x. old_half x) whole)
-fault-told fault None whole e first = inl (memory-told fault e)
-fault-told fault (Some m) whole e first = inr (e ∙ ap (option_map (λ x. old_half x)) (sym (first m refl)))
+-- a misfit that is found is the first one
+pub first-misfit : (fault : PairFault) (here whole : Option Misfit) → refusal_of_pairing fault ≡ option_map (λ x. old_half x) here → ((m : Misfit) → here ≡ Some m → whole ≡ Some m) → (fault ≡ Memory) ⊎ (refusal_of_pairing fault ≡ option_map (λ x. old_half x) whole)
+first-misfit fault None whole e first = inl (memory-unless_refused fault e)
+first-misfit fault (Some m) whole e first = inr (e ∙ ap (option_map (λ x. old_half x)) (sym (first m refl)))

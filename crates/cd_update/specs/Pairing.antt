@@ -10,7 +10,7 @@ use Rattle.cd_cell.specs.FaceView.{FaceView}
 use Rattle.cd_cell.specs.Levels.{stated_hash}
 use Rattle.cd_cell.specs.CellFaults.{stated_depth_of_kid}
 use Rattle.cd_cell.specs.Steady.{IsSteady}
-use Rattle.cd_cell.specs.Tree.{Tree, subtrees, info_of, face_of, hash_at, rep_of, mask_of, IsWellFormed}
+use Rattle.cd_cell.specs.Tree.{Tree, subtrees, info_of, face_of, hash_at, depth_at, rep_of, mask_of, IsWellFormed}
 use Rattle.cd_cell.specs.Equality.{same_hash, same_info}
 use Rattle.cd_cell.specs.Export.{IsClashFree}
 use Rattle.cd_cell.specs.Updates.{agrees, is_hidden, Misfit, UpdateRefusal, old_hash, old_depth, old_half, some_unless, half_of, wanted, hash_refusal, depth_refusal, half_refusal}
@@ -73,6 +73,14 @@ module _ (H : List ℕ → Hash256) where
     -- the first cell of an old half, in preorder, that doesn't agree with what was found for it
     abbrev pub first_misfit : Tree → Option Misfit
     first_misfit half = first_of misfit_at (places H half 0)
+
+  -- the first of some places that doesn't agree with the face beside its hash
+  abbrev pub misfit_among : List Place → List (Option FaceView) → Option Misfit
+  misfit_among ps faces = first_of (misfit_at (beside (each_once same_hash (flat_map wanted_at ps)) faces)) ps
+
+  -- an old root beside the hash and the depth of a half
+  abbrev pub half_root_refusal : Tree → ChildInfo → Option UpdateRefusal
+  half_root_refusal half root = root_refusal (hash_at H half 0) (depth_at H half 0) root
 
   -- the hashes of the cells that an update shows of the old tree, each once
   abbrev pub wanted_hashes : Tree → List Hash256

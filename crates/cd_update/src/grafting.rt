@@ -157,14 +157,14 @@ impl<H: Hash32> HalfGraft<'_, '_, H> {
     fn new_infos(&self, alloc: Global) -> Result<Vec<ChildInfo>, Memory>
         ensures { IfOk result (λ infos. AreDone H.digest_of self.now 0 infos.items) }
     {
-        let walk = &self.half.walk;
         let first = shown_info(self.half.bag, &self.half.start);
-        let mut infos = vec![in alloc; *first; walk.visits.len()]?;
-        let mut left = walk.numbers.len();
+        let mut infos = vec![in alloc; *first; self.half.walk.visits.len()]?;
+        let mut left = self.half.walk.numbers.len();
         while left > 0 {
             left -= 1;
-            if let Some(number) = walk.numbers[left] {
-                let info = self.new_info(&walk.visits[number], infos.as_slice());
+            if let Some(number) = self.half.walk.numbers[left] {
+                let visit = &self.half.walk.visits[number];
+                let info = self.new_info(visit, infos.as_slice());
                 infos[number] = info;
             }
         }
@@ -236,7 +236,8 @@ pub fn graft<H: Hash32>(
     if let Some(hash) = unknown(half.bag, half.visits(), known) {
         return Err(GraftFault::Foreign { hash });
     }
-    match (HalfGraft { half, known }).grafted(alloc) {
+    let it = HalfGraft { half, known };
+    match it.grafted(alloc) {
         Ok(new) => Ok(new),
         Err(_) => Err(GraftFault::Memory),
     }

@@ -2,7 +2,6 @@ ghost use Rattle.std.specs.Prelude.{◌≡◌, All, IfOk};
 ghost use Rattle.std.specs.List.{flat_map};
 ghost use Rattle.cd_cell.specs.Equality.{same_hash};
 ghost use Rattle.cd_update.specs.EachOnce.{each_once};
-ghost use Rattle.cd_cell.specs.Bags.{bag_tree};
 ghost use Rattle.cd_update.specs.Nodes.{IsShown};
 ghost use Rattle.cd_update.specs.Visits.{place_of, visited};
 ghost use Rattle.cd_update.specs.Pairing.{visible_hash, wanted_at, wanted_hashes};
@@ -11,7 +10,6 @@ use crate::hashes::Hashes;
 use crate::hidden::{is_hidden, shown_info};
 use crate::update::Update;
 use crate::visit::Visit;
-use crate::walk::visit_all;
 use cd_base::{Hash256, Memory};
 use cd_cell::{Bag, Hash32};
 use std::alloc::Global;
@@ -37,20 +35,22 @@ fn hashes_of<H: Hash32>(alloc: Global, bag: &Bag<H>, visits: &[Visit]) -> Result
     let mut hashes = Hashes::new(alloc);
     for visit in visits {
         if let Some(hash) = hash_of_visible(bag, visit) {
-            hashes.place_of(hash)?;
+            hashes.add(hash)?;
         }
     }
     Ok(hashes)
 }
 
 impl<H: Hash32> Update<'_, H> {
+    ghost use Rattle.cd_update.specs.UpdateTrees.{tree_of};
+
     /// The hashes of the cells that the old half shows, in preorder, each once: at Merkle depth `d` a hash at
     /// level `d`. A store has the faces of the old tree under them.
     pub fn wanted(&self, alloc: Global) -> Result<Vec<Hash256>, Memory>
-        ensures { IfOk result (λ hashes. hashes.items ≡ wanted_hashes H.digest_of (bag_tree self.now.bag.now self.now.root)) }
+        ensures { IfOk result (λ hashes. hashes.items ≡ wanted_hashes H.digest_of (tree_of self.now)) }
     {
-        let walk = visit_all(alloc, self.bag, self.half(0))?;
-        let hashes = hashes_of(alloc, self.bag, walk.visits.as_slice())?;
+        let half = self.walk(alloc, 0)?;
+        let hashes = hashes_of(alloc, half.bag, half.visits())?;
         Ok(hashes.all)
     }
 }

@@ -6,7 +6,7 @@ use Rattle.cd_update.specs.EachOnce.{with_new, each_once, first_of}
 use Rattle.cd_update.specs.Visits.{visit_at, place_of, visited}
 use Rattle.cd_update.specs.Pairing.{beside, unlike, visible_hash, wanted_at, misfit_at}
 use Rattle.cd_update.proofs.PlaceLaws.{first_of-more, first_of-stop}
-use Rattle.cd_update.proofs.PairingLaws.{misfit_at-hidden, misfit_at-visible, wanted-hidden, wanted-visible, look-at, fault-told}
+use Rattle.cd_update.proofs.PairingLaws.{misfit_at-hidden, misfit_at-visible, wanted-hidden, wanted-visible, look-at, first-misfit}
 use Rattle.cd_update.proofs.pairing.check_visits.Goals as goal
 
 pub loop-visit-preserved-in_default : goal.loop-visit-preserved-in_default
@@ -40,9 +40,9 @@ returns-in-Some-unlike_face g c =
     let some : visible_hash H p ≡ Some hash = sym c.hash_of_visible.ensures ∙ c.in-Some.is in
     let grown = c.in-Ok.ensures.all ∙ ap (λ hs. with_new same_hash hs hash) c.loop-visit.invariant.all in
     let found = look-at H bag visits i in' faces hash place some (omega (arith, c.in-Ok.ensures.below, ap length grown)) (ap (λ hs. get_or hs place no_hash) (sym grown) ∙ c.in-Ok.ensures.place) in
-    let told_here = misfit_at-visible H look p hash some ∙ ap₂ (λ o f. unlike p.depth hash o f) found c.face-shown.ensures.cell in
-    fault-told c.in-Some-unlike_face.fault (unlike p.depth hash (get_or faces place None) c.face-shown.result.now) (first_of (misfit_at H look) (visited bag visits)) c.in-Some-unlike_face.ensures
-    (λ m e. first_of-stop bag visits i in' (misfit_at H look) c.loop-visit.invariant.agree m (told_here ∙ e))
+    let here = misfit_at-visible H look p hash some ∙ ap₂ (λ o f. unlike p.depth hash o f) found c.face-shown.ensures.cell in
+    first-misfit c.in-Some-unlike_face.fault (unlike p.depth hash (get_or faces place None) c.face-shown.result.now) (first_of (misfit_at H look) (visited bag visits)) c.in-Some-unlike_face.ensures
+    (λ m e. first_of-stop bag visits i in' (misfit_at H look) c.loop-visit.invariant.agree m (here ∙ e))
 
 pub loop-visit-preserved : goal.loop-visit-preserved
 loop-visit-preserved g c =
@@ -59,8 +59,8 @@ loop-visit-preserved g c =
     let some : visible_hash H p ≡ Some hash = sym c.hash_of_visible.ensures ∙ c.in-Some.is in
     let grown = c.in-Ok.ensures.all ∙ ap (λ hs. with_new same_hash hs hash) c.loop-visit.invariant.all in
     let found = look-at H bag visits i in' faces hash place some (omega (arith, c.in-Ok.ensures.below, ap length grown)) (ap (λ hs. get_or hs place no_hash) (sym grown) ∙ c.in-Ok.ensures.place) in
-    let told_here = misfit_at-visible H look p hash some ∙ ap₂ (λ o f. unlike p.depth hash o f) found c.face-shown.ensures.cell in
+    let here = misfit_at-visible H look p hash some ∙ ap₂ (λ o f. unlike p.depth hash o f) found c.face-shown.ensures.cell in
     record {
       all = grown ∙ sym (wanted-visible H bag visits i in' hash some);
-      agree = first_of-more bag visits i in' (misfit_at H look) c.loop-visit.invariant.agree ∙ told_here ∙ c.in_default-unlike_face.ensures;
+      agree = first_of-more bag visits i in' (misfit_at H look) c.loop-visit.invariant.agree ∙ here ∙ c.in_default-unlike_face.ensures;
     }
