@@ -1,4 +1,4 @@
--- CRC-32C, the checksum of RFC 3720 (appendix B.4), bit by bit: the lowest bit of a byte comes first.
+-- Trusted: CRC-32C, the checksum of RFC 3720 (appendix B.4), bit by bit: the lowest bit of a byte comes first.
 use Rattle.std.specs.Prelude.{◌≡◌, ℕ, zero, suc, ◌*◌, ◌/◌, ◌%◌, List, fold, bit_xor}
 use Rattle.std.specs.Int.Bits.{xor_assoc, xor_self, xor_zero_r}
 use Rattle.std.proofs.Common.{ap, ◌∙◌}

@@ -1,4 +1,4 @@
--- Numbers as bytes.
+-- Trusted: numbers as bytes.
 use Rattle.std.specs.Prelude.{ℕ, zero, suc, ◌+◌, ◌*◌, ◌/◌, ◌%◌, ◌<◌, List, [], ◌∷◌, reverse, fold, slice_index}
 
 -- the lowest n bytes of a number, the lowest first

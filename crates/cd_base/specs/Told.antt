@@ -1,4 +1,5 @@
--- What a call does to the bytes that a source has left or a sink has taken, as equations, so that an object that doesn't tell them (None) goes on not telling.
+-- Trusted: what a call does to the bytes that a source has left or a sink has taken. These are equations, so that
+-- an object that doesn't tell them (None) goes on not telling.
 use Rattle.std.specs.Prelude.{◌≡◌, ℕ, ◌≤◌, Option, List, [], length, take, IfSome}
 use Rattle.std.specs.Io.KnownBytes.{prepend_known, append_known}
 

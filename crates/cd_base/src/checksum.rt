@@ -20,7 +20,8 @@ impl Model for Crc {
 
     ghost inverse = { λ value. record { register = bit_xor value 0xffffffff } };
 
-    ghost inverse_ok = { λ crc _. ap (λ register. record crc { register = register }) (turned_back crc.register) };
+    ghost inverse_ok = { λ crc _. ap
+        (λ register. record crc { register = register }) (turned_back crc.register) };
 }
 
 impl Crc {
@@ -36,7 +37,8 @@ impl Crc {
     /// Goes on with the next piece.
     pub fn feed(&mut self, piece: &[u8])
         ensures after { self.new ≡ crc32c_after self.old piece.now }
-        ensures joined { (front : List ℕ) → self.old ≡ crc32c front → self.new ≡ crc32c (front ++ piece.now) }
+        ensures joined { (front : List ℕ) → self.old ≡ crc32c front → self.new
+            ≡ crc32c (front ++ piece.now) }
     {
         self.register = register_after(self.register, piece);
     }

@@ -60,8 +60,10 @@ impl Sink for SteadySink {
     fn write(&mut self, piece: &[u8]) -> Result<usize, Failed>
         requires { 0 < length piece.now }
         ensures count { IfOk result (λ count. count ≡ length piece.now) }
-        ensures ok { OnOk result (self.new ≡ record self.old { taken = self.old.taken ++ piece.now }) }
-        ensures failed { OnErr result (self.new ≡ record self.old { faults = one_more self.old.faults }) }
+        ensures ok { OnOk result (self.new
+            ≡ record self.old { taken = self.old.taken ++ piece.now }) }
+        ensures failed { OnErr result (self.new
+            ≡ record self.old { faults = one_more self.old.faults }) }
     {
         if self.bytes.extend_from_slice(piece).is_err() {
             self.faults = raised(self.faults);
@@ -74,7 +76,7 @@ impl Sink for SteadySink {
 /// A sink in memory of which chosen calls fail, as a test wants it. A call that can't grow fails and is counted too.
 #[derive(Drop)]
 pub struct MemorySink {
-    bytes: Vec<u8>,
+    sink: SteadySink,
     fails: Vec<u64>,
     calls: u64,
     faults: u64,
@@ -85,7 +87,12 @@ impl Model for MemorySink {
 
     ghost Value = { SinkView };
 
-    ghost view = { λ s. record { taken = s.bytes.items; fails = s.fails.items; calls = s.calls; faults = s.faults } };
+    ghost view = { λ s. record {
+      taken = s.sink.taken;
+      fails = s.fails.items;
+      calls = s.calls;
+      faults = s.faults;
+    } };
 }
 
 impl MemorySink {
@@ -94,7 +101,7 @@ impl MemorySink {
         ensures { result ≡ record { taken = []; fails = fails.items; calls = 0; faults = 0 } }
     {
         MemorySink {
-            bytes: Vec::new(alloc),
+            sink: SteadySink::new(alloc),
             fails,
             calls: 0,
             faults: 0,
@@ -105,7 +112,7 @@ impl MemorySink {
     pub fn taken(&self) -> &[u8]
         ensures { result.now ≡ self.now.taken }
     {
-        &self.bytes
+        self.sink.taken()
     }
 
     /// How many calls failed.
@@ -128,16 +135,28 @@ impl Sink for MemorySink {
         ensures fails { Contains self.old.fails self.old.calls → IsErr result }
         ensures count { IfOk result (λ count. count ≡ length piece.now) }
         ensures ok { OnOk result (self.new
-            ≡ record self.old { taken = self.old.taken ++ piece.now; calls = one_more self.old.calls }) }
+            ≡ record self.old {
+              taken = self.old.taken ++ piece.now;
+              calls = one_more self.old.calls;
+            }) }
         ensures failed { OnErr result (self.new
-            ≡ record self.old { calls = one_more self.old.calls; faults = one_more self.old.faults }) }
+            ≡ record self.old {
+              calls = one_more self.old.calls;
+              faults = one_more self.old.faults;
+            }) }
     {
         let fails = self.fails.contains(&self.calls);
         self.calls = raised(self.calls);
-        if fails || self.bytes.extend_from_slice(piece).is_err() {
+        if fails {
             self.faults = raised(self.faults);
             return Err(Failed);
         }
-        Ok(piece.len())
+        match self.sink.write(piece) {
+            Ok(count) => Ok(count),
+            Err(failed) => {
+                self.faults = raised(self.faults);
+                Err(failed)
+            }
+        }
     }
 }

@@ -78,13 +78,23 @@ impl Model for MemorySource {
 
     ghost Value = { SourceView };
 
-    ghost view = { λ s. record { left = s.source; fails = s.fails.items; calls = s.calls; faults = s.faults } };
+    ghost view = { λ s. record {
+      left = s.source;
+      fails = s.fails.items;
+      calls = s.calls;
+      faults = s.faults;
+    } };
 }
 
 impl MemorySource {
     /// A source that has these bytes left. `fails` has the numbers, from 0, of the calls that fail.
     pub fn new(bytes: Vec<u8>, fails: Vec<u64>) -> MemorySource
-        ensures { result ≡ record { left = bytes.items; fails = fails.items; calls = 0; faults = 0 } }
+        ensures { result ≡ record {
+          left = bytes.items;
+          fails = fails.items;
+          calls = 0;
+          faults = 0;
+        } }
     {
         MemorySource {
             source: SteadySource::new(bytes),
@@ -118,12 +128,19 @@ impl Source for MemorySource {
 
     fn read(&mut self, into: &mut [u8]) -> Result<usize, Failed>
         ensures fails { IsErr result ↔ Contains self.old.fails self.old.calls }
-        ensures count { IfOk result (λ count. count ≡ min (length into.old) (length self.old.left)) }
+        ensures count { IfOk result (λ count. count
+            ≡ min (length into.old) (length self.old.left)) }
         ensures front { IfOk result (λ count. take count into.new ≡ take count self.old.left) }
         ensures rest { IfOk result (λ count. self.new
-            ≡ record self.old { left = drop count self.old.left; calls = one_more self.old.calls }) }
+            ≡ record self.old {
+              left = drop count self.old.left;
+              calls = one_more self.old.calls;
+            }) }
         ensures failed { OnErr result (self.new
-            ≡ record self.old { calls = one_more self.old.calls; faults = one_more self.old.faults }) }
+            ≡ record self.old {
+              calls = one_more self.old.calls;
+              faults = one_more self.old.faults;
+            }) }
         ensures bound { ReadsAtMost result into.new }
     {
         let fails = self.fails.contains(&self.calls);

@@ -17,7 +17,8 @@ pub trait Sink {
         requires { 0 < length piece.now }
         ensures some { IfOk result (λ count. 0 < count) }
         ensures bound { IfOk result (λ count. count ≤ length piece.now) }
-        ensures bytes { IfOk result (λ count. Got (taken self.old) (taken self.new) (take count piece.now)) }
+        ensures bytes { IfOk result
+            (λ count. Got (taken self.old) (taken self.new) (take count piece.now)) }
         ensures kept { OnErr result (taken self.new ≡ taken self.old) }
         ensures cause { HasCause (faults self.old) (faults self.new) result };
 }

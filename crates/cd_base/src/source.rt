@@ -17,7 +17,8 @@ pub trait Source {
     fn read(&mut self, into: &mut [u8]) -> Result<usize, Failed>
         requires { 0 < length into.old }
         ensures bound { ReadsAtMost result into.new }
-        ensures bytes { IfOk result (λ count. Gave (left self.old) (left self.new) (take count into.new)) }
+        ensures bytes { IfOk result
+            (λ count. Gave (left self.old) (left self.new) (take count into.new)) }
         ensures end { IfOk result (λ count. count ≡ 0 → IsAtEnd (left self.new)) }
         ensures kept { OnErr result (left self.new ≡ left self.old) }
         ensures cause { HasCause (faults self.old) (faults self.new) result };

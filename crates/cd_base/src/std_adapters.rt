@@ -52,7 +52,8 @@ impl<R: Read> Source for StdSource<R> {
     fn read(&mut self, into: &mut [u8]) -> Result<usize, Failed>
         ensures bound { ReadsAtMost result into.new }
         // What it answers is what the reader gave: neither an error nor bytes of it are taken for the end.
-        ensures told { ReadConsumes (R.remaining self.old.inner) (R.remaining self.new.inner) result into.new }
+        ensures told { ReadConsumes (R.remaining self.old.inner) (R.remaining self.new.inner)
+            result into.new }
         ensures ok { OnOk result (self.new.faults ≡ self.old.faults) }
         ensures failed { OnErr result (self.new.faults ≡ one_more self.old.faults) }
     {
@@ -110,7 +111,8 @@ impl<W: Write> Sink for StdSink<W> {
         ensures some { IfOk result (λ count. 0 < count) }
         ensures bound { IfOk result (λ count. count ≤ length piece.now) }
         // What it answers is what the writer took: no short write is taken for a whole one.
-        ensures told { WriteAppends (W.contents self.old.inner) (W.contents self.new.inner) result piece.now }
+        ensures told { WriteAppends (W.contents self.old.inner) (W.contents self.new.inner)
+            result piece.now }
         ensures ok { OnOk result (self.new.faults ≡ self.old.faults) }
         ensures failed { OnErr result (self.new.faults ≡ one_more self.old.faults) }
     {

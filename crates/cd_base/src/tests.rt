@@ -59,6 +59,39 @@ impl Write for Picky {
     }
 }
 
+/// A reader that gives one byte a call.
+#[derive(Drop)]
+struct Drip<'a>(&'a [u8]);
+
+impl Read for Drip<'_> {
+    fn read(&mut self, buf: &mut [u8]) -> io::Result<usize> {
+        let most = buf.len().min(1);
+        self.0.read(&mut buf[..most])
+    }
+}
+
+/// A writer that takes one byte a call, and keeps the last of them at its end.
+#[derive(Drop)]
+struct Sip {
+    calls: u64,
+    last: u8,
+}
+
+impl Write for Sip {
+    fn write(&mut self, buf: &[u8]) -> io::Result<usize> {
+        let Some(first) = buf.first() else {
+            return Ok(0);
+        };
+        self.last = *first;
+        self.calls = raised(self.calls);
+        Ok(1)
+    }
+
+    fn flush(&mut self) -> io::Result<()> {
+        Ok(())
+    }
+}
+
 #[test]
 fn checksums_of_the_standard(rt: HostRuntime) {
     assert!(rt; crc32c(b"") == 0x0000_0000);
@@ -122,6 +155,9 @@ fn source_of_std(rt: HostRuntime) -> Result<(), Fail> {
     let bytes = read_all(rt.alloc(), &mut source, 5)?;
     assert!(rt; bytes.as_slice() == b"cells".as_slice());
     assert!(rt; source.faults() == 0);
+    let mut source = StdSource::new(Drip(b"cells".as_slice()));
+    let bytes = read_all(rt.alloc(), &mut source, 5)?;
+    assert!(rt; bytes.as_slice() == b"cells".as_slice());
     let mut source = StdSource::new(Broken);
     let fault = read_all(rt.alloc(), &mut source, 5).err();
     assert!(rt; fault == Some(ReadAllFault::Failed));
@@ -134,6 +170,12 @@ fn sink_of_std(rt: HostRuntime) {
     let mut sink = StdSink::new(Picky);
     assert!(rt; write_all(&mut sink, b"cells").is_ok());
     assert!(rt; sink.faults() == 0);
+    let mut sip = Sip { calls: 0, last: 0 };
+    let mut sink = StdSink::new(&mut sip);
+    assert!(rt; write_all(&mut sink, b"cells").is_ok());
+    drop(sink);
+    assert!(rt; sip.calls == 5);
+    assert!(rt; sip.last == b's');
     let mut sink = StdSink::new(Broken);
     assert!(rt; write_all(&mut sink, b"cells").is_err());
     assert!(rt; sink.faults() == 1);
@@ -171,16 +213,17 @@ fn numbers_and_orders(rt: HostRuntime) {
 #[test]
 fn texts(rt: HostRuntime) -> Result<(), Fail> {
     let text = format!(in rt.alloc();
-        "{}; {}; {}; {}; {}",
+        "{}; {}; {}; {}; {}; {}",
         Failed,
         Memory,
         ReadAllFault::Failed,
         ReadAllFault::Long { limit: 8 },
-        ReadAllFault::Memory
+        ReadAllFault::Memory,
+        Hash256([0xab; 32])
     )?;
     assert!(rt;
         text.as_str()
-            == "an object of the outside failed; out of memory; the source failed; the input is longer than 8 bytes; out of memory"
+            == "an object of the outside failed; out of memory; the source failed; the input is longer than 8 bytes; out of memory; abababababababababababababababababababababababababababababababab"
     );
     Ok(())
 }

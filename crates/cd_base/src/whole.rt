@@ -20,11 +20,14 @@ pub fn read_all<S: Source>(
     source: &mut S,
     limit: u64,
 ) -> Result<Vec<u8>, ReadAllFault>
-    ensures whole { IfOk result (λ bytes. IsReadWhole limit (S.left source.old) (S.left source.new) bytes.items) }
+    ensures whole { IfOk result
+        (λ bytes. IsReadWhole limit (S.left source.old) (S.left source.new) bytes.items) }
     ensures stopped { IfErr result (IsReadStopped limit (S.left source.old) (S.left source.new)) }
     // `Failed` comes only where the source's count rose; at any other answer the count is as it was.
-    ensures failed { IsErrOf result ReadAllFault.Failed → Rose (S.faults source.old) (S.faults source.new) }
-    ensures steady { ¬ IsErrOf result ReadAllFault.Failed → S.faults source.new ≡ S.faults source.old }
+    ensures failed { IsErrOf result ReadAllFault.Failed
+        → Rose (S.faults source.old) (S.faults source.new) }
+    ensures steady { ¬ IsErrOf result ReadAllFault.Failed → S.faults source.new
+        ≡ S.faults source.old }
     ensures counted { S.faults source.old ≤ S.faults source.new }
 {
     let mut bytes = Vec::new(alloc);

@@ -1,4 +1,4 @@
--- The names of blocks and their keys of 80 bytes.
+-- Trusted: the names of blocks and their keys of 80 bytes.
 use Rattle.std.specs.Prelude.{◌≡◌, ℕ, ◌^◌, ◌<◌, List, ◌++◌, length, take, FitsSigned, slice_index, slice_range}
 use Rattle.std.specs.Int.{w32, w64, to_be_bytes, from_be_bytes, cast_unsigned, cast_signed}
 use Rattle.std.specs.Cmp.Lexicographic.{slice_cmp}

@@ -1,4 +1,4 @@
--- The text of a stored block's description, under the block's key.
+-- Trusted: the text of a stored block's description, under the block's key.
 use Rattle.std.specs.Prelude.{ℕ, ◌<◌, ◌≤◌, List, [], ◌∷◌, ◌++◌, length, IsTrue}
 use Rattle.std.specs.List.{flat_map, AllByRecursion}
 use Rattle.std.specs.Int.{w16, to_be_bytes, from_bool}

@@ -1,4 +1,4 @@
--- Which blocks the shard tops of a masterchain block have passed.
+-- Trusted: which blocks the shard tops of a masterchain block have passed.
 use Rattle.std.specs.Prelude.{nat_lt, ◌&&◌, Bool, List, if◌then◌else◌}
 use Rattle.std.specs.List.{filter, list_any, list_all}
 use Rattle.cd_block.specs.declared.block.BlockId.{BlockId}

@@ -1,4 +1,4 @@
--- Which parents a block may have.
+-- Trusted: which parents a block may have.
 use Rattle.std.specs.Prelude.{ℕ, ◌+◌, ◌==◌, ◌&&◌, ◌||◌, not, Bool, negsuc, List, [], ◌∷◌, Option, Some, None, if◌then◌else◌}
 use Rattle.std.specs.Ordering.{int_eq}
 use Rattle.cd_block.specs.declared.shard.ShardId.{ShardId}

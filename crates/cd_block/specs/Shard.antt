@@ -1,4 +1,4 @@
--- Shards by the prefixes of their numbers.
+-- Trusted: shards by the prefixes of their numbers.
 use Rattle.std.specs.Prelude.{ℕ, zero, suc, ◌+◌, ◌/◌, ◌%◌, ◌==◌, ◌&&◌, ◌||◌, nat_eq, Bool, false, negsuc, List, [], ◌∷◌, length, Option, Some, None, if◌then◌else◌}
 use Rattle.std.specs.Int.{is_negative, bit_at}
 use Rattle.std.specs.List.{starts_with}

@@ -1,4 +1,4 @@
--- The spelling of a block's name.
+-- Trusted: the spelling of a block's name.
 use Rattle.std.specs.Prelude.{ℕ, List, ◌++◌, codes}
 use Rattle.std.specs.Int.{w64, to_be_bytes}
 use Rattle.std.specs.Fmt.{decimal, signed_decimal}

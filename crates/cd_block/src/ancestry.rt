@@ -29,17 +29,17 @@ pub fn lineage(id: &BlockId, parents: &[BlockId]) -> Result<(), LineageFault>
 {
     let shard = &id.shard_id;
     match parents {
-        [] => judged(is_valid_shard(shard), id.seqno, 0),
+        [] => answer_by(is_valid_shard(shard), id.seqno, 0),
         [parent] => {
             let fits = is_valid_shard(shard) && stays_or_splits(shard, &parent.shard_id);
-            judged(fits, id.seqno, u64::from(parent.seqno) + 1)
+            answer_by(fits, id.seqno, u64::from(parent.seqno) + 1)
         }
         _ => Err(LineageFault::Shard),
     }
 }
 
 #[tactic(auto, unfolding(crate::specs::Lineage::fault_by))]
-fn judged(shard_fits: bool, stated: u32, due: u64) -> Result<(), LineageFault>
+fn answer_by(shard_fits: bool, stated: u32, due: u64) -> Result<(), LineageFault>
     ensures { MatchResult result
         (λ _. spec.fault_by shard_fits stated due ≡ None)
         (λ fault. spec.fault_by shard_fits stated due ≡ Some fault) }

@@ -1,72 +1,10 @@
-ghost use Rattle.std.specs.Prelude.{◌≡◌, ◌==◌, [], length};
-
 use crate::block::BlockId;
-use cd_base::Hash256;
-use std::alloc::{AllocError, AllocFailed, Global};
-use std::marker::Model;
+use cd_base::{Hash256, Listed};
+use std::alloc::{AllocError, AllocFailed};
 use thiserror::Error;
 
-/// The names of some blocks, seen as a list. Made from a `Vec`, and giving it back, with no memory.
-#[derive(Debug, Drop)]
-pub struct BlockIds {
-    ids: Vec<BlockId>,
-}
-
-impl Model for BlockIds {
-    ghost use Rattle.std.specs.Prelude.{List};
-    ghost use Rattle.cd_block.specs.declared.block.BlockId.{BlockId};
-
-    ghost Value = { List BlockId };
-
-    ghost view = { λ a. a.ids.items };
-}
-
-impl BlockIds {
-    /// No ids. Takes no memory.
-    pub fn new(alloc: Global) -> BlockIds
-        ensures { result ≡ [] }
-    {
-        BlockIds {
-            ids: Vec::new(alloc),
-        }
-    }
-
-    /// The ids as a slice.
-    pub fn as_slice(&self) -> &[BlockId]
-        ensures { result.now ≡ self.now }
-    {
-        self.ids.as_slice()
-    }
-
-    /// How many ids there are.
-    pub fn len(&self) -> usize
-        ensures { result ≡ length self.now }
-    {
-        self.ids.len()
-    }
-
-    /// Whether there is no id.
-    pub fn is_empty(&self) -> bool
-        ensures { result ≡ (length self.now == 0) }
-    {
-        self.ids.is_empty()
-    }
-
-    /// The ids as the `Vec` that they are kept in.
-    pub fn into_vec(self) -> Vec<BlockId>
-        ensures { result.items ≡ self }
-    {
-        self.ids
-    }
-}
-
-impl From<Vec<BlockId>> for BlockIds {
-    ghost from_gives = { λ vec ids. ids ≡ vec.items };
-
-    fn from(ids: Vec<BlockId>) -> BlockIds {
-        BlockIds { ids }
-    }
-}
+/// The names of some blocks, seen as a list.
+pub type BlockIds = Listed<BlockId>;
 
 /// What the store keeps of a block beside its state's cells.
 #[derive(Debug, Drop)]

@@ -33,7 +33,8 @@ impl ShardId {
 
     /// The shard of which this one is a half. None for a whole workchain, and for the shard number 0.
     pub fn parent(&self) -> Option<ShardId>
-        ensures none { IsNone result ↔ ((self.now.shard ≡ 0) ⊎ (self.now.shard ≡ 0x8000000000000000)) }
+        ensures none { IsNone result ↔ ((self.now.shard ≡ 0) ⊎ (self.now.shard
+            ≡ 0x8000000000000000)) }
         ensures child { IfSome result (λ parent. IsTrue (is_child_of self.now parent)) }
         ensures only { (parent : ShardId) → IsShardId parent
             → IsTrue (is_child_of self.now parent) → result ≡ Some parent }

@@ -26,8 +26,8 @@ pub fn print_id(alloc: Global, id: &BlockId) -> Result<String, Memory>
     let workchain = id.shard_id.workchain;
     let seqno = id.seqno;
     let shard = hex::encode(alloc, id.shard_id.shard.to_be_bytes())?;
-    let root = hex::encode(alloc, id.root.0)?;
-    let file = hex::encode(alloc, id.file.0)?;
+    let root = id.root;
+    let file = id.file;
     let mut text = String::with_capacity(alloc, MAX_LEN)?;
     text.push_str("(")?;
     write!(text, "{workchain}")?;
@@ -36,9 +36,9 @@ pub fn print_id(alloc: Global, id: &BlockId) -> Result<String, Memory>
     text.push_str(",")?;
     write!(text, "{seqno}")?;
     text.push_str("):")?;
-    text.push_str(&root)?;
+    write!(text, "{root}")?;
     text.push_str(":")?;
-    text.push_str(&file)?;
+    write!(text, "{file}")?;
     Ok(text)
 }
 

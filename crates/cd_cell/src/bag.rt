@@ -1,8 +1,8 @@
 ghost use Rattle.std.specs.Prelude.{◌≡◌, ◌↔◌, ◌<◌, ◌≤◌, ℕ, [], length, map, take, slice_index_or, All, IsTrue};
-ghost use Rattle.cd_cell.specs.Infos.{info_hash};
+ghost use Rattle.cd_cell.specs.Infos.{info_hash, info_depth};
 ghost use Rattle.cd_cell.specs.GoodFace.{IsGoodFace};
 ghost use Rattle.cd_cell.specs.Tree.{children, info_of, face_of, rep_of, height_of, IsWellFormed};
-ghost use Rattle.cd_cell.specs.LevelRecursion.{tree_hash};
+ghost use Rattle.cd_cell.specs.LevelRecursion.{tree_mask, tree_depth, tree_hash};
 ghost use Rattle.cd_cell.specs.Bags.{bag_tree, face_at, refs_at, IsBag};
 
 use crate::{ChildInfo, Face, Hash32, face_info};
@@ -104,7 +104,10 @@ impl<H: Hash32> Bag<H> {
     pub fn info(&self, number: u32) -> ChildInfo
         requires { number < length self.now.cells }
         ensures info { result ≡ info_of H.digest_of (bag_tree self.now number) }
-        ensures levels { (l : ℕ) → l ≤ 3 → info_hash result l ≡ tree_hash H.digest_of (bag_tree self.now number) l }
+        // Over the whole tree: mask, depths and hashes are those of the recursion over levels and children.
+        ensures mask { result.mask ≡ tree_mask (bag_tree self.now number) }
+        ensures depths { (l : ℕ) → l ≤ 3 → info_depth result l ≡ tree_depth (bag_tree self.now number) l }
+        ensures hashes { (l : ℕ) → l ≤ 3 → info_hash result l ≡ tree_hash H.digest_of (bag_tree self.now number) l }
     {
         face_info::<H>(self.face(number))
     }

@@ -1,5 +1,9 @@
 -- Changes in which no key stands twice.
-use Rattle.std.proofs.Common.{◌≡◌, ℕ, false, List, [], ◌∷◌, ◌++◌, ◌∙◌, append_assoc}
+use Rattle.std.proofs.Common.{◌≡◌, ℕ, Bool, true, false, ◌||◌, List, [], ◌∷◌, ◌++◌, map, refl, ap, ◌∙◌, append_assoc}
+use Rattle.std.specs.Prelude.{Vec}
+use Rattle.std.specs.Global.{Global}
+use Rattle.std.proofs.lemmas.List.Folds.{list_any-append}
+use Rattle.cd_keeper.specs.Shown.{entries_of}
 use Rattle.std.specs.List.{AllByRecursion, IsDistinct, list_any}
 use Rattle.std.specs.Map.{keys_of}
 use Rattle.std.proofs.lemmas.Bool.{or_parts}
@@ -51,3 +55,31 @@ drop_desc-new change key once new = record { cells = once.cells; descs = distinc
 pub none_twice : HasNoKeyTwice record { put_cells = []; drop_cells = []; put_descs = []; drop_descs = [] }
 unfolding IsDistinct
 none_twice = record { cells = tt; descs = tt }
+
+-- ---- whether a change names a key
+
+list_any-map : {A B : Type 0} (p : B → Bool) (f : A → B) (xs : List A) → list_any p (map f xs) ≡ list_any (λ x. p (f x)) xs
+list_any-map p f [] = refl
+list_any-map p f (x ∷ xs) = ap (λ b. p (f x) || b) (list_any-map p f xs)
+
+module _ {K : Type 0} (bytes : K → List ℕ) (key : List ℕ) (drops : List K) (puts : List (K × Vec ℕ Global)) where
+  abbrev names : Bool
+  names = list_any (same_key key) (map bytes drops ++ keys_of (entries_of bytes puts))
+
+  names-parts : names ≡ (list_any (λ k. same_key key (bytes k)) drops || list_any (λ e. same_key key (bytes e.0)) puts)
+  names-parts =
+      list_any-append (same_key key) (map bytes drops) (keys_of (entries_of bytes puts))
+      ∙ rw (list_any-map (same_key key) bytes drops, list_any-map (same_key key) (λ (e : List ℕ × List ℕ). e.0) (entries_of bytes puts), list_any-map (λ (e : List ℕ × List ℕ). same_key key e.0) (λ (e : K × Vec ℕ Global). (bytes e.0, e.1.items)) puts) refl
+
+  either : (a b n : Bool) → n ≡ (a || b) → a ≡ true → true ≡ n
+  either a b n e t = cc
+
+  other : (a b n : Bool) → n ≡ (a || b) → a ≡ false → b ≡ n
+  other a b n e t = cc
+
+  -- a key that is dropped, and one that is not
+  pub names-dropped : list_any (λ k. same_key key (bytes k)) drops ≡ true → true ≡ names
+  names-dropped t = either _ _ names names-parts t
+
+  pub names-put : list_any (λ k. same_key key (bytes k)) drops ≡ false → list_any (λ e. same_key key (bytes e.0)) puts ≡ names
+  names-put t = other _ _ names names-parts t

@@ -1,4 +1,4 @@
--- What a keeper holds, two tables from keys to values, and what a batch makes of it. Keys and values are lists of bytes.
+-- Trusted: what a keeper holds, two tables from keys to values, and what a batch makes of it. Keys and values are lists of bytes.
 use Rattle.std.specs.Prelude.{ℕ, Bool, true, List, Option, Some, None, fold, find, refl}
 use Rattle.std.specs.Ordering.{nat_cmp, is_lt}
 use Rattle.std.specs.Cmp.Lexicographic.{slice_cmp}

@@ -1,4 +1,4 @@
--- Keepers in memory, as contracts see them.
+-- Trusted: keepers in memory, as contracts see them.
 use Rattle.std.specs.Prelude.{◌≡◌, ◌↔◌, ℕ, List, [], ◌∷◌, Vec, Result, Ok, Err, IsErrOf, Contains, fold, refl}
 use Rattle.std.specs.Global.{Global}
 use Rattle.std.specs.Coded.{Coded, coded_ℕ, coded_list, coded×, code_by}

@@ -1,4 +1,4 @@
--- The keys of a change: no key is changed twice.
+-- Trusted: the keys of a change: no key is changed twice.
 use Rattle.std.specs.Prelude.{◌≡◌, ℕ, Bool, false, List, ◌++◌}
 use Rattle.std.specs.Ordering.{nat_cmp, eq_by_cmp}
 use Rattle.std.specs.Cmp.Lexicographic.{slice_cmp}
@@ -31,8 +31,8 @@ abbrev pub IsNew : List ℕ → List (List ℕ) → Type 0
 IsNew key keys = list_any (same_key key) keys ≡ false
 
 -- the change that four lists make: puts and drops of cells, then of descriptions
-abbrev pub change_of : List (Hash256 × Vec ℕ Global) → List Hash256 → List (List ℕ × Vec ℕ Global) → List (List ℕ) → Change
-change_of put_cells drop_cells put_descs drop_descs = record {
+abbrev pub change_of_lists : List (Hash256 × Vec ℕ Global) → List Hash256 → List (List ℕ × Vec ℕ Global) → List (List ℕ) → Change
+change_of_lists put_cells drop_cells put_descs drop_descs = record {
   put_cells = entries_of hash_bytes put_cells;
   drop_cells = map hash_bytes drop_cells;
   put_descs = entries_of desc_bytes put_descs;

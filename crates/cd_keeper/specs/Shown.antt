@@ -1,4 +1,4 @@
--- Entries, keys and vectors, as contracts see them: as bytes.
+-- Trusted: entries, keys and vectors, as contracts see them: as bytes.
 use Rattle.std.specs.Prelude.{ℕ, List, Vec, Option, None, Some, map}
 use Rattle.std.specs.Global.{Global}
 use Rattle.std.specs.declared.ops.Bound.{Bound}

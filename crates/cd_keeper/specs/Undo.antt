@@ -1,4 +1,4 @@
--- How a batch whose memory runs out in its middle is taken back.
+-- Inner: how a batch whose memory runs out in its middle is taken back.
 use Rattle.std.specs.Prelude.{◌≡◌, ℕ, false, List, [], ◌∷◌, length, reverse, map, Option, Some, None, Vec, ◌==◌, if◌then◌else◌, ⊤}
 use Rattle.std.specs.Global.{Global}
 use Rattle.std.specs.FinMap as finite

@@ -1,6 +1,7 @@
 ghost use Rattle.std.specs.Prelude.{◌≡◌, ◌∷◌, ◌++◌, [], map, IfOk, OnOk, OnErr};
 ghost use Rattle.cd_keeper.specs.Shown.{entries_of, hash_bytes, desc_bytes};
-ghost use Rattle.cd_keeper.specs.NoKeyTwice.{HasNoKeyTwice, IsNew, cell_keys, desc_keys, change_of};
+ghost use Rattle.std.specs.List.{list_any};
+ghost use Rattle.cd_keeper.specs.NoKeyTwice.{HasNoKeyTwice, IsNew, same_key, cell_keys, desc_keys, change_of_lists};
 
 use crate::table::copy_of;
 use cd_base::{Hash256, Memory};
@@ -18,19 +19,26 @@ pub struct Batch {
 
 impl Model for Batch {
     ghost use Rattle.cd_keeper.specs.Contents.{Change};
-    ghost use Rattle.cd_keeper.specs.NoKeyTwice.{HasNoKeyTwice, change_of};
+    ghost use Rattle.cd_keeper.specs.NoKeyTwice.{HasNoKeyTwice, change_of_lists};
 
     ghost Value = { Change };
 
-    ghost view = { λ b. change_of b.put_cells.items b.drop_cells.items b.put_descs.items b.drop_descs.items };
+    ghost view = { λ b. change_of_lists b.put_cells.items b.drop_cells.items
+        b.put_descs.items b.drop_descs.items };
 
-    ghost invariant = { λ b. HasNoKeyTwice (change_of b.put_cells.items b.drop_cells.items b.put_descs.items b.drop_descs.items) };
+    ghost invariant = { λ b. HasNoKeyTwice (change_of_lists b.put_cells.items b.drop_cells.items
+        b.put_descs.items b.drop_descs.items) };
 }
 
 impl Batch {
     /// A batch without puts and drops.
     pub fn new(alloc: Global) -> Batch
-        ensures { result ≡ record { put_cells = []; drop_cells = []; put_descs = []; drop_descs = [] } }
+        ensures { result ≡ record {
+          put_cells = [];
+          drop_cells = [];
+          put_descs = [];
+          drop_descs = [];
+        } }
     {
         Batch {
             put_cells: Vec::new(alloc),
@@ -40,15 +48,18 @@ impl Batch {
         }
     }
 
-    /// A batch of these puts and drops.
+    /// A batch of these puts and drops. Where it isn't known that no key stands twice, add them one by one, each
+    /// after `names_cell` or `names_desc`.
     pub fn from_parts(
         put_cells: Vec<(Hash256, Vec<u8>)>,
         drop_cells: Vec<Hash256>,
         put_descs: Vec<([u8; 80], Vec<u8>)>,
         drop_descs: Vec<[u8; 80]>,
     ) -> Batch
-        requires { HasNoKeyTwice (change_of put_cells.items drop_cells.items put_descs.items drop_descs.items) }
-        ensures { result ≡ change_of put_cells.items drop_cells.items put_descs.items drop_descs.items }
+        requires { HasNoKeyTwice (change_of_lists put_cells.items drop_cells.items
+            put_descs.items drop_descs.items) }
+        ensures { result ≡ change_of_lists put_cells.items drop_cells.items
+            put_descs.items drop_descs.items }
     {
         Batch {
             put_cells,
@@ -56,6 +67,26 @@ impl Batch {
             put_descs,
             drop_descs,
         }
+    }
+
+    /// Whether the batch puts or drops a record under this hash: the test of what `put_cell` and `drop_cell` ask.
+    pub fn names_cell(&self, key: &Hash256) -> bool
+        ensures { result ≡ list_any (same_key key.now.0) (cell_keys self.now) }
+    {
+        if drops_cell(&self.drop_cells, key) {
+            return true;
+        }
+        puts_cell(&self.put_cells, key)
+    }
+
+    /// Whether the batch puts or drops a description under this key: the test of what `put_desc` and `drop_desc` ask.
+    pub fn names_desc(&self, key: &[u8; 80]) -> bool
+        ensures { result ≡ list_any (same_key key.now) (desc_keys self.now) }
+    {
+        if drops_desc(&self.drop_descs, key) {
+            return true;
+        }
+        puts_desc(&self.put_descs, key)
     }
 
     /// Adds the put of a record under a hash that the batch doesn't name yet.
@@ -138,4 +169,28 @@ impl Batch {
             drop_descs: Vec::from_slice(alloc, &self.drop_descs)?,
         })
     }
+}
+
+fn drops_cell(drops: &[Hash256], key: &Hash256) -> bool
+    ensures { result ≡ list_any (λ named. same_key key.now.0 (hash_bytes named)) drops.now }
+{
+    drops.iter().any(|named| key.0.cmp(&named.0).is_eq())
+}
+
+fn puts_cell(puts: &[(Hash256, Vec<u8>)], key: &Hash256) -> bool
+    ensures { result ≡ list_any (λ put. same_key key.now.0 (hash_bytes put.0)) puts.now }
+{
+    puts.iter().any(|put| key.0.cmp(&put.0.0).is_eq())
+}
+
+fn drops_desc(drops: &[[u8; 80]], key: &[u8; 80]) -> bool
+    ensures { result ≡ list_any (λ named. same_key key.now (desc_bytes named)) drops.now }
+{
+    drops.iter().any(|named| key.cmp(named).is_eq())
+}
+
+fn puts_desc(puts: &[([u8; 80], Vec<u8>)], key: &[u8; 80]) -> bool
+    ensures { result ≡ list_any (λ put. same_key key.now (desc_bytes put.0)) puts.now }
+{
+    puts.iter().any(|put| key.cmp(&put.0).is_eq())
 }

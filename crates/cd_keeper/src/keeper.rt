@@ -62,7 +62,8 @@ pub trait Keeper: Drop {
         after: Option<[u8; 80]>,
     ) -> Result<Option<([u8; 80], Vec<u8>)>, KeepFault>
         ensures value { IfOk result (λ found. IfSome (held self.old)
-            (λ contents. option_map (entry_of desc_bytes) found ≡ next_entry contents.descs after)) }
+            (λ contents. option_map (entry_of desc_bytes) found
+            ≡ next_entry contents.descs after)) }
         ensures above { IfOk result (λ found. IfSome found
             (λ entry. IsTrue (is_above after entry.0))) }
         ensures keeps { KeepsHeld held trail batches self.old self.new }

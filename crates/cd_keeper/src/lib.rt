@@ -8,8 +8,6 @@ mod memory;
 mod steady;
 mod table;
 mod tables;
-#[cfg(test)]
-mod tests;
 
 pub use batch::Batch;
 pub use fault::KeepFault;

@@ -47,13 +47,21 @@ impl Model for MemoryKeeper {
       reads = k.reads;
     } };
 
-    ghost invariant = { λ k. k.tables ≡ after_all (raw_contents k.raw_cells.items k.raw_descs.items) k.applied.items };
+    ghost invariant = { λ k. k.tables
+        ≡ after_all (raw_contents k.raw_cells.items k.raw_descs.items) k.applied.items };
 }
 
 impl MemoryKeeper {
     /// A keeper that holds nothing. `fails` has the numbers of the calls that fail, counted from 0 over all five calls.
     pub fn new(alloc: Global, fails: Vec<u64>) -> MemoryKeeper
-        ensures { result ≡ record { start = no_contents; trail = []; fails = fails.items; calls = 0; faults = 0; reads = 0 } }
+        ensures { result ≡ record {
+          start = no_contents;
+          trail = [];
+          fails = fails.items;
+          calls = 0;
+          faults = 0;
+          reads = 0;
+        } }
     {
         MemoryKeeper {
             tables: Tables::new(alloc),
@@ -70,7 +78,8 @@ impl MemoryKeeper {
 
     /// A keeper with what this one held after `k` batches, or none where fewer were applied.
     pub fn at(&self, k: u64) -> Result<Option<SteadyKeeper>, Memory>
-        ensures value { IfOk result (λ found. found ≡ option_map steady_of (slice_get (self.now.start ∷ self.now.trail) k)) }
+        ensures value { IfOk result (λ found. found
+            ≡ option_map steady_of (slice_get (self.now.start ∷ self.now.trail) k)) }
         ensures none { IfOk result (λ found. IsNone found ↔ (length self.now.trail < k)) }
     {
         if self.batches() < k {
@@ -159,7 +168,10 @@ impl MemoryKeeper {
         ensures fails { IsErr result ↔ Contains self.old.fails self.old.calls }
         ensures ok { OnOk result (self.new ≡ record self.old { calls = one_more self.old.calls }) }
         ensures failed { OnErr result (self.new
-            ≡ record self.old { calls = one_more self.old.calls; faults = one_more self.old.faults }) }
+            ≡ record self.old {
+              calls = one_more self.old.calls;
+              faults = one_more self.old.faults;
+            }) }
     {
         let fails = self.fails.contains(&self.calls);
         self.calls = raised(self.calls);
@@ -174,9 +186,16 @@ impl MemoryKeeper {
     fn begin_read(&mut self) -> Result<(), Failed>
         ensures fails { IsErr result ↔ Contains self.old.fails self.old.calls }
         ensures ok { OnOk result (self.new
-            ≡ record self.old { calls = one_more self.old.calls; reads = one_more self.old.reads }) }
+            ≡ record self.old {
+              calls = one_more self.old.calls;
+              reads = one_more self.old.reads;
+            }) }
         ensures failed { OnErr result (self.new
-            ≡ record self.old { calls = one_more self.old.calls; faults = one_more self.old.faults; reads = one_more self.old.reads }) }
+            ≡ record self.old {
+              calls = one_more self.old.calls;
+              faults = one_more self.old.faults;
+              reads = one_more self.old.reads;
+            }) }
     {
         self.reads = raised(self.reads);
         self.begin_call()
@@ -232,7 +251,8 @@ impl Keeper for MemoryKeeper {
     ) -> Result<Option<([u8; 80], Vec<u8>)>, KeepFault>
         ensures value { IfOk result (λ found. option_map (entry_of desc_bytes) found
             ≡ next_entry (held_by self.old).descs after) }
-        ensures above { IfOk result (λ found. IfSome found (λ entry. IsTrue (is_above after entry.0))) }
+        ensures above { IfOk result (λ found. IfSome found
+            (λ entry. IsTrue (is_above after entry.0))) }
         ensures read { IsRead self.old self.new result }
     {
         self.begin_read()?;

@@ -26,7 +26,11 @@ impl Model for SteadyKeeper {
 
     ghost coded = { coded_steady };
 
-    ghost view = { λ keeper. record { contents = keeper.tables; batches = keeper.batches; reads = keeper.reads } };
+    ghost view = { λ keeper. record {
+      contents = keeper.tables;
+      batches = keeper.batches;
+      reads = keeper.reads;
+    } };
 }
 
 impl SteadyKeeper {

@@ -73,7 +73,8 @@ impl<K: Key> Table<K> {
 
     /// A copy of the value under a key.
     pub fn get(&self, key: &K) -> Result<Option<Vec<u8>>, Memory>
-        ensures { IfOk result (λ found. option_map (λ v. v.items) found ≡ finite.get self.now (K.bytes key.now)) }
+        ensures { IfOk result (λ found. option_map (λ v. v.items) found
+            ≡ finite.get self.now (K.bytes key.now)) }
     {
         match self.tree.get(key) {
             Some(value) => Ok(Some(Vec::from_slice(self.alloc, value.as_slice())?)),
@@ -83,8 +84,10 @@ impl<K: Key> Table<K> {
 
     /// The least key above a bound, with a copy of its value.
     pub fn next(&self, after: Option<K>) -> Result<Option<(K, Vec<u8>)>, Memory>
-        ensures value { IfOk result (λ found. option_map (entry_of K.bytes) found ≡ next_entry self.now (option_map K.bytes after)) }
-        ensures above { IfOk result (λ found. IfSome found (λ entry. IsTrue (is_above (option_map K.bytes after) (K.bytes entry.0)))) }
+        ensures value { IfOk result (λ found. option_map (entry_of K.bytes) found
+            ≡ next_entry self.now (option_map K.bytes after)) }
+        ensures above { IfOk result (λ found. IfSome found
+            (λ entry. IsTrue (is_above (option_map K.bytes after) (K.bytes entry.0)))) }
     {
         match self.tree.range((above(after), Bound::Unbounded)).next() {
             Some((key, value)) => Ok(Some((*key, Vec::from_slice(self.alloc, value.as_slice())?))),
@@ -94,7 +97,8 @@ impl<K: Key> Table<K> {
 
     /// Puts a value under a key, and gives the one that it replaces.
     pub fn put(&mut self, key: K, value: Vec<u8>) -> Result<Option<Vec<u8>>, Memory>
-        ensures old { IfOk result (λ old. option_map (λ v. v.items) old ≡ finite.get self.old (K.bytes key)) }
+        ensures old { IfOk result (λ old. option_map (λ v. v.items) old
+            ≡ finite.get self.old (K.bytes key)) }
         ensures ok { OnOk result (self.new ≡ finite.insert self.old (K.bytes key) value.items) }
         ensures err { OnErr result (self.new ≡ self.old) }
     {
@@ -104,7 +108,8 @@ impl<K: Key> Table<K> {
     /// Puts copies of all values, or changes nothing. No key stands twice among the puts.
     pub fn put_all(&mut self, puts: &[(K, Vec<u8>)]) -> Result<Replaced, Memory>
         ensures put { OnOk result (self.new ≡ put_all self.old (entries_of K.bytes puts.now)) }
-        ensures back { IfOk result (λ replaced. undone self.new (keys_back K.bytes puts.now) (latest replaced.items) ≡ self.old) }
+        ensures back { IfOk result
+            (λ replaced. undone self.new (keys_back K.bytes puts.now) (latest replaced.items) ≡ self.old) }
         ensures err { OnErr result (self.new ≡ self.old) }
     {
         let mut replaced = Vec::new(self.alloc);
@@ -149,7 +154,8 @@ impl<K: Key> Table<K> {
         replaced: &mut Replaced,
     ) -> Result<(), Memory>
         ensures put { OnOk result (self.new ≡ finite.insert self.old (K.bytes key) value.now) }
-        ensures keeps { OnOk result (latest replaced.new.items ≡ noted at (finite.get self.old (K.bytes key)) (latest replaced.old.items)) }
+        ensures keeps { OnOk result (latest replaced.new.items
+            ≡ noted at (finite.get self.old (K.bytes key)) (latest replaced.old.items)) }
         ensures err { OnErr result (self.new ≡ self.old) }
         ensures none { OnErr result (replaced.new.items ≡ replaced.old.items) }
     {
@@ -203,7 +209,8 @@ fn above<K>(after: Option<K>) -> Bound<K>
 
 /// Takes out the last value where the put of this number replaced it.
 fn pop_at(replaced: &mut Replaced, at: usize) -> Option<Vec<u8>>
-    ensures some { IfSome result (λ value. latest replaced.old.items ≡ (at, value.items) ∷ latest replaced.new.items) }
+    ensures some { IfSome result (λ value. latest replaced.old.items
+        ≡ (at, value.items) ∷ latest replaced.new.items) }
     ensures kept { IfNone result (replaced.new.items ≡ replaced.old.items) }
     ensures none { IfNone result (IsOther at (latest replaced.old.items)) }
 {

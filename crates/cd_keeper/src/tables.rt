@@ -56,30 +56,36 @@ impl Tables {
 
     /// A copy of the record under a hash.
     pub fn get_cell(&self, key: &Hash256) -> Result<Option<Vec<u8>>, Memory>
-        ensures { IfOk result (λ found. option_map (λ v. v.items) found ≡ finite.get self.now.cells key.now.0) }
+        ensures { IfOk result (λ found. option_map (λ v. v.items) found
+            ≡ finite.get self.now.cells key.now.0) }
     {
         self.cells.get(key)
     }
 
     /// The least hash above a bound, with a copy of its record.
     pub fn next_cell(&self, after: Option<Hash256>) -> Result<Option<(Hash256, Vec<u8>)>, Memory>
-        ensures value { IfOk result (λ found. option_map (entry_of hash_bytes) found ≡ next_entry self.now.cells (option_map hash_bytes after)) }
-        ensures above { IfOk result (λ found. IfSome found (λ entry. IsTrue (is_above (option_map hash_bytes after) entry.0.0))) }
+        ensures value { IfOk result (λ found. option_map (entry_of hash_bytes) found
+            ≡ next_entry self.now.cells (option_map hash_bytes after)) }
+        ensures above { IfOk result (λ found. IfSome found
+            (λ entry. IsTrue (is_above (option_map hash_bytes after) entry.0.0))) }
     {
         self.cells.next(after)
     }
 
     /// A copy of the description under a key.
     pub fn get_desc(&self, key: &[u8; 80]) -> Result<Option<Vec<u8>>, Memory>
-        ensures { IfOk result (λ found. option_map (λ v. v.items) found ≡ finite.get self.now.descs key.now) }
+        ensures { IfOk result (λ found. option_map (λ v. v.items) found
+            ≡ finite.get self.now.descs key.now) }
     {
         self.descs.get(key)
     }
 
     /// The least key of a description above a bound, with a copy of it.
     pub fn next_desc(&self, after: Option<[u8; 80]>) -> Result<Option<([u8; 80], Vec<u8>)>, Memory>
-        ensures value { IfOk result (λ found. option_map (entry_of desc_bytes) found ≡ next_entry self.now.descs after) }
-        ensures above { IfOk result (λ found. IfSome found (λ entry. IsTrue (is_above after entry.0))) }
+        ensures value { IfOk result (λ found. option_map (entry_of desc_bytes) found
+            ≡ next_entry self.now.descs after) }
+        ensures above { IfOk result (λ found. IfSome found
+            (λ entry. IsTrue (is_above after entry.0))) }
     {
         self.descs.next(after)
     }

@@ -20,7 +20,7 @@ use Rattle.cd_cell.specs.StoredText.{levels_of, hash_text, depth_text, stored_ha
 use Rattle.cd_record.specs.RecordText.{kid_text}
 use Rattle.cd_record.specs.Records.{IsInfo}
 use Rattle.cd_record.specs.RecordReading.{mask_at, kid_at, place_at_level, hash_in, depth_in, info_in}
-use Rattle.cd_record.proofs.KidTexts.{flat_map-filter}
+use Rattle.cd_base.proofs.ListLaws.{flat_map-filter}
 use Rattle.cd_record.proofs.StoredLevels.{place_at_level-below, place_at_level-lt, length-levels_of, value-at, length-pieces, piece-at, pieces-of_levels}
 use Rattle.cd_record.specs.declared.record_fault.RecordFault.TheVariants.{Cut}
 use Rattle.cd_record.proofs.Fields.{mask_takes, mask_again}

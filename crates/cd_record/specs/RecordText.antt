@@ -1,4 +1,4 @@
--- The text of a stored cell's record, under the cell's hash.
+-- Trusted: the text of a stored cell's record, under the cell's hash.
 use Rattle.std.specs.Prelude.{ℕ, List, ◌∷◌, ◌++◌}
 use Rattle.std.specs.List.{flat_map}
 use Rattle.std.specs.Int.{w32, to_be_bytes}

@@ -1,4 +1,4 @@
--- What a record is: a count and a well-formed cell's face, each number in its range.
+-- Trusted: what a record is: a count and a well-formed cell's face, each number in its range.
 use Rattle.std.specs.Prelude.{◌≡◌, ℕ, ◌^◌, ◌<◌, ◌≤◌, length}
 use Rattle.std.specs.List.{AllByRecursion}
 use Rattle.cd_cell.specs.declared.info.ChildInfo.{ChildInfo}

@@ -194,10 +194,12 @@ fn record_at(bytes: &[u8]) -> Result<Record, RecordFault>
 /// Reads a stored record. Takes no memory.
 pub fn decode(bytes: &[u8]) -> Result<Record, RecordFault>
     // What is read is spelled so.
-    ensures found { IfOk result (λ found. IsRecord found × (bytes.now ≡ record_text found.count found.face)) }
+    ensures found { IfOk result (λ found. IsRecord found × (bytes.now
+        ≡ record_text found.count found.face)) }
 
     // What is spelled so is read.
-    ensures only { (known : Record) → IsRecord known → bytes.now ≡ record_text known.count known.face → result ≡ Ok known }
+    ensures only { (known : Record) → IsRecord known → bytes.now
+        ≡ record_text known.count known.face → result ≡ Ok known }
 
     // Which fault it is.
     ensures exact { result ≡ spec.record_in bytes.now }

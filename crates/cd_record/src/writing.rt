@@ -15,7 +15,8 @@ pub fn encode(alloc: Global, cell_record: &Record) -> Result<Vec<u8>, Memory>
     requires some { 1 ≤ cell_record.now.count }
     requires few { cell_record.now.count < 2 ^ 32 }
     requires fit { IsFaceFit cell_record.now.face }
-    ensures { IfOk result (λ text. text.items ≡ record_text cell_record.now.count cell_record.now.face) }
+    ensures { IfOk result (λ text. text.items
+        ≡ record_text cell_record.now.count cell_record.now.face) }
 {
     encode_cell(alloc, cell_record.count as u32, &cell_record.face)
 }
@@ -82,7 +83,8 @@ fn put_depths(text: &mut Vec<u8>, kid: &ChildInfo) -> Result<(), AllocError>
 /// Adds the hash at a level, where it is significant.
 fn put_hash(text: &mut Vec<u8>, kid: &ChildInfo, level: u8) -> Result<(), AllocError>
     requires { level ≤ 3 }
-    ensures { OnOk result (text.new.items ≡ text.old.items ++ (if is_significant kid.now.mask level then hash_text kid.now level else [])) }
+    ensures { OnOk result (text.new.items
+        ≡ text.old.items ++ (if is_significant kid.now.mask level then hash_text kid.now level else [])) }
 {
     if kid.mask.significant(level) {
         text.extend_from_slice(&kid.hashes[level as usize].0)?;
@@ -93,7 +95,8 @@ fn put_hash(text: &mut Vec<u8>, kid: &ChildInfo, level: u8) -> Result<(), AllocE
 /// Adds the depth at a level, where it is significant.
 fn put_depth(text: &mut Vec<u8>, kid: &ChildInfo, level: u8) -> Result<(), AllocError>
     requires { level ≤ 3 }
-    ensures { OnOk result (text.new.items ≡ text.old.items ++ (if is_significant kid.now.mask level then depth_text kid.now level else [])) }
+    ensures { OnOk result (text.new.items
+        ≡ text.old.items ++ (if is_significant kid.now.mask level then depth_text kid.now level else [])) }
 {
     if kid.mask.significant(level) {
         text.extend_from_slice(&kid.depths[level as usize].to_be_bytes())?;

@@ -28,7 +28,7 @@ infos-shown : (H : List ℕ → Hash256) (es : List Entry) (faces : List FaceVie
 infos-shown H es faces infos filled found = found ∙ infos_from-faces H 0 es ∙ ap (map (info_of_face H)) (sym filled)
 
 pub cells_of-requires-clause-some : goal.cells_of-requires-clause-some
-cells_of-requires-clause-some g c κs within =
+cells_of-requires-clause-some g c =
     let H = g.H.Hash32.digest_of in
     let bytes = c.args.bytes.now in
     let fit : IsBytes bytes = (λ i. omega (arith, c.type_inv.bytes i)) in
@@ -38,7 +38,7 @@ cells_of-requires-clause-some g c κs within =
     subst (λ (x : List CellText). 0 < length x) (sym c.deref.ensures.value) (some_texts H bytes fit f texts read)
 
 pub cells_of-requires-clause-few : goal.cells_of-requires-clause-few
-cells_of-requires-clause-few g c κs within =
+cells_of-requires-clause-few g c =
     let H = g.H.Hash32.digest_of in
     let bytes = c.args.bytes.now in
     let fit : IsBytes bytes = (λ i. omega (arith, c.type_inv.bytes i)) in
@@ -48,7 +48,7 @@ cells_of-requires-clause-few g c κs within =
     subst (λ (x : List CellText). length x ≤ 1048576) (sym c.deref.ensures.value) (few_texts H bytes fit f texts read)
 
 pub cells_of-requires-clause-texts : goal.cells_of-requires-clause-texts
-cells_of-requires-clause-texts g c κs within =
+cells_of-requires-clause-texts g c =
     let H = g.H.Hash32.digest_of in
     let bytes = c.args.bytes.now in
     let fit : IsBytes bytes = (λ i. omega (arith, c.type_inv.bytes i)) in
@@ -76,8 +76,8 @@ least_clash-requires-clause-counted g c =
     let shown = infos-shown H (entries_of_texts (text_views c.deref.result.now)) c.deref-2.result.now c.deref-3.result.now (c.deref-2.ensures.value ∙ c.in-Ok-cells_of.ensures.faces) (c.deref-3.ensures.value ∙ c.in-Ok-cells_of.ensures.infos) in
     ap length shown ∙ length-map c.deref-2.result.now (info_of_face H)
 
-pub new-requires-after_bounds : goal.new-requires-after_bounds
-new-requires-after_bounds g c κs within =
+pub new-requires : goal.new-requires
+new-requires g c =
     let H = g.H.Hash32.digest_of in
     let bytes = c.args.bytes.now in
     let fit : IsBytes bytes = (λ i. omega (arith, c.type_inv.bytes i)) in

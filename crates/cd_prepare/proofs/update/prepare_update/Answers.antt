@@ -31,15 +31,15 @@ returns-in-Err-graft-clause-exact g c t are =
     answer-graft H u t paired.0 c.in-Err-graft.fault c.from-in-Err-graft.result c.from-in-Err-graft.ensures (c.in-Err-graft.ensures.tree (known_of H u t) paired.1)
 
 pub new_cells-requires-clause-good : goal.new_cells-requires-clause-good
-new_cells-requires-clause-good g c κs within =
+new_cells-requires-clause-good g c =
     let H = g.H.Hash32.digest_of in
     let update = c.args.update.now in
     let bag = update.bag.now in
     let u = bag_tree bag update.root in
     good-faces H u (well-update H bag.cells bag.refs bag.roots update.is_bag update.root update.is_update) (kind-update H bag.cells bag.refs bag.roots update.is_bag update.root update.is_update) (mask-update H bag.cells bag.refs bag.roots update.is_bag update.root update.is_update) c.in-Ok.known.infos c.in-Ok.known.old c.in-Ok-graft.ensures.refused c.as_slice.result.now (c.as_slice.ensures ∙ c.in-Ok-graft.ensures.cells)
 
-pub new-requires-after_bounds : goal.new-requires-after_bounds
-new-requires-after_bounds g c κs within =
+pub new-requires : goal.new-requires
+new-requires g c =
     let H = g.H.Hash32.digest_of in
     let update = c.args.update.now in
     let bag = update.bag.now in

@@ -38,8 +38,8 @@ one_entry H = record {
   rooted = root_at;
 }
 
-pub new-bag-requires-after_bounds : goal.new-bag-requires-after_bounds
-new-bag-requires-after_bounds g c κs =
+pub new-bag-requires : goal.new-bag-requires
+new-bag-requires g c =
     let bits : c.in_ok-bits.bits ≡ [] = subst (λ o. IfSome o (λ bs. bs ≡ [])) c.in_ok-bits.ensures.ok_part c.from_slice.ensures.value in
     let face : c.new.result ≡ no_face = c.new.ensures ∙ ap (λ bs. record { exotic = false; bits = bs; kids = [] }) bits in
     let cells : c.push.new.self.items ≡ no_face ∷ [] = c.in_ok-push.ensures.items ∙ ap₂ (λ old f. old ++ f ∷ []) c.new-cells.ensures.items face in
