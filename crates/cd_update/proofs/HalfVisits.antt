@@ -45,18 +45,19 @@ pub refused-as : (fault : PairFault) (p q : Option UpdateRefusal) → p ≡ q �
 refused-as fault p q same (inl e) = inl e
 refused-as fault p q same (inr e) = inr (e ∙ same)
 
-module _ (H : List ℕ → Hash256) (bag : BagView) (is_bag : IsBag H bag.cells bag.refs bag.roots) (root : ℕ) (entry : IsUpdateEntry bag.cells root) where
-  abbrev pub update_cell : Tree
-  update_cell = bag_tree bag root
+-- a well-formed Merkle update of mask 0
+pub record IsUpdateTree (H : List ℕ → Hash256) (u : Tree) : Type 0 where
+  pub well : IsWellFormed H u
+  pub kind : kind_of H u ≡ Some Update
+  pub plain : mask_of H u ≡ 0
 
-  pub well-update : IsWellFormed H update_cell
-  well-update = well_formed-bag H bag.cells bag.refs bag.roots is_bag root entry.there
-
-  pub kind-update : kind_of H update_cell ≡ Some Update
-  kind-update = ap kind_of_face (face_of-bag H bag.cells bag.refs bag.roots is_bag root) ∙ entry.kind
-
-  pub mask-update : mask_of H update_cell ≡ 0
-  mask-update = ap (λ k. k.mask) (info_of-bag H bag.cells bag.refs bag.roots is_bag root) ∙ entry.plain
+-- the tree of an update
+pub update-tree : (H : List ℕ → Hash256) (bag : BagView) (root : ℕ) → IsBag H bag.cells bag.refs bag.roots → IsUpdateEntry bag.cells root → IsUpdateTree H (bag_tree bag root)
+update-tree H bag root is_bag entry = record {
+  well = well_formed-bag H bag.cells bag.refs bag.roots is_bag root entry.there;
+  kind = ap kind_of_face (face_of-bag H bag.cells bag.refs bag.roots is_bag root) ∙ entry.kind;
+  plain = ap (λ k. k.mask) (info_of-bag H bag.cells bag.refs bag.roots is_bag root) ∙ entry.plain;
+}
 
 module _ {H : List ℕ → Hash256} {bag : BagView} {start : Visit} {visits : List Visit} {numbers : List (Option ℕ)} {u : Tree} {place : ℕ} (walked : IsWalked H bag start visits numbers) (half : IsHalf bag start u place) where
   pub half-places : places H (bag_tree bag start.node.entry) start.node.depth ≡ places H (half_of u place) 0

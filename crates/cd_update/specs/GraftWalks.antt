@@ -12,7 +12,9 @@ use Rattle.cd_update.specs.declared.visit.Visit.{Visit}
 use Rattle.cd_update.specs.declared.grafting.HalfGraft.{HalfGraft}
 use Rattle.cd_update.specs.Places.{Place}
 use Rattle.cd_update.specs.Visits.{spot, nodes_of, visited}
-use Rattle.cd_update.specs.Grafts.{grafted_info, grafted_face}
+use Rattle.cd_update.specs.Grafts.{grafted_info, grafted_face, own_faces_at}
+use Rattle.cd_update.specs.EachOnce.{each_once}
+use Rattle.cd_cell.specs.Equality.{same_face}
 use Rattle.cd_update.specs.GraftSteps.{AreGrafted}
 
 module _ {D : Type 0} {g : Ghosts D} where
@@ -33,6 +35,10 @@ module _ {D : Type 0} {g : Ghosts D} where
   IsVisible it n = is_hidden n.depth (face_in it n) ≡ false
 
   module _ (H : List ℕ → Hash256) where
+    -- the own faces of the visits, each once
+    abbrev pub met_faces : HalfGraft D g → List FaceView
+    met_faces it = each_once same_face (own_faces_at H it.known.now.infos (places_of it))
+
     -- what the graft of a node's cell shows, and its face where it is visible
     abbrev pub new_info_at : HalfGraft D g → Node → ChildInfo
     new_info_at it n = grafted_info H it.known.now.infos (tree_at it n) n.depth

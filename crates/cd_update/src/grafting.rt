@@ -2,12 +2,11 @@ ghost use Rattle.std.specs.Prelude.{◌≡◌, ◌↔◌, ◌≤◌, ℕ, All, C
 ghost use Rattle.std.specs.List.{list_any};
 ghost use Rattle.cd_cell.specs.Levels.{info_of_face};
 ghost use Rattle.cd_cell.specs.Tree.{Tree};
-ghost use Rattle.cd_cell.specs.Equality.{same_face};
 ghost use Rattle.cd_cell.specs.Updates.{found_in, first_foreign};
-ghost use Rattle.cd_update.specs.EachOnce.{each_once, first_of};
+ghost use Rattle.cd_update.specs.EachOnce.{first_of};
 ghost use Rattle.cd_update.specs.Nodes.{same_node, IsShown};
 ghost use Rattle.cd_update.specs.Visits.{spot, nodes_of, place_of, visited};
-ghost use Rattle.cd_update.specs.Grafts.{grafted_info, own_faces_at, own_faces, foreign_at, foreign_hash, AreShownBy, IsGraftOnto};
+ghost use Rattle.cd_update.specs.Grafts.{grafted_info, own_faces, foreign_at, foreign_hash, AreShownBy, IsGraftOnto};
 ghost use Rattle.cd_update.specs.GraftSteps.{IsGrafting};
 ghost use Rattle.cd_update.specs.UpdateTrees.{new_half_of};
 ghost use Rattle.cd_update.specs.Answers.{GraftAnswers};
@@ -73,11 +72,12 @@ pub struct Grafted {
 struct HalfGraft<'a, 'b, H: Hash32> {
     half: HalfWalk<'a, H>,
     known: &'b Known,
-    ghost grafting: { IsGrafting H.digest_of known.now.infos half.bag.now half.start half.walk.visits.items half.walk.numbers.items },
+    ghost grafting: { IsGrafting H.digest_of known.now.infos half.bag.now half.start
+        half.walk.visits.items half.walk.numbers.items },
 }
 
 impl<H: Hash32> HalfGraft<'_, '_, H> {
-    ghost use Rattle.cd_update.specs.GraftWalks.{visits_of, face_in, places_of, IsVisible, new_info_at, new_face_at, AreDone, AreDoneBehind};
+    ghost use Rattle.cd_update.specs.GraftWalks.{visits_of, face_in, met_faces, IsVisible, new_info_at, new_face_at, AreDone, AreDoneBehind};
 
     /// What was worked out of an entry at a depth.
     fn info_at<'i>(&self, infos: &'i [ChildInfo], node: Node) -> &'i ChildInfo
@@ -174,7 +174,7 @@ impl<H: Hash32> HalfGraft<'_, '_, H> {
     /// The own cells, each once.
     fn own(&self, alloc: Global, infos: &[ChildInfo]) -> Result<Own, Memory>
         requires { AreDone H.digest_of self.now 0 infos.now }
-        ensures cells { IfOk result (λ own. own.cells.items ≡ each_once same_face (own_faces_at H.digest_of self.now.known.now.infos (places_of self.now))) }
+        ensures cells { IfOk result (λ own. own.cells.items ≡ met_faces H.digest_of self.now) }
         ensures infos { IfOk result (λ own. own.infos.items ≡ map (info_of_face H.digest_of) own.cells.items) }
     {
         let mut own = Own::new(alloc);
@@ -196,7 +196,7 @@ impl<H: Hash32> HalfGraft<'_, '_, H> {
     /// The new root and the own cells.
     fn grafted(&self, alloc: Global) -> Result<Grafted, Memory>
         ensures root { IfOk result (λ new. new.root ≡ new_info_at H.digest_of self.now self.now.half.start.node) }
-        ensures cells { IfOk result (λ new. new.cells ≡ each_once same_face (own_faces_at H.digest_of self.now.known.now.infos (places_of self.now))) }
+        ensures cells { IfOk result (λ new. new.cells ≡ met_faces H.digest_of self.now) }
         ensures infos { IfOk result (λ new. new.infos ≡ map (info_of_face H.digest_of) new.cells) }
     {
         let infos = self.new_infos(alloc)?;

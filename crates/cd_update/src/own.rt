@@ -81,7 +81,8 @@ impl Own {
         requires infos { self.old.infos.items ≡ map (info_of_face H.digest_of) self.old.cells.items }
         ensures cells { OnOk result (self.new.cells.items ≡ with_new same_face self.old.cells.items face) }
         ensures infos { OnOk result (self.new.infos.items ≡ map (info_of_face H.digest_of) self.new.cells.items) }
-        ensures kept { OnErr result ((self.new.cells.items ≡ self.old.cells.items) × (self.new.infos.items ≡ self.old.infos.items)) }
+        ensures kept_cells { OnErr result (self.new.cells.items ≡ self.old.cells.items) }
+        ensures kept_infos { OnErr result (self.new.infos.items ≡ self.old.infos.items) }
     {
         if self.has::<H>(&face, &info) {
             return Ok(());

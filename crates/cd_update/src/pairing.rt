@@ -99,7 +99,8 @@ fn check_visits<H: Hash32>(
 /// What the old cells show that some visits met.
 fn infos_of<H: Hash32>(alloc: Global, bag: &Bag<H>, visits: &[Visit]) -> Result<Known, Memory>
     requires { All (IsShown H.digest_of bag.now) visits.now }
-    ensures { IfOk result (λ known. known.infos ≡ each_once same_info (flat_map (known_at H.digest_of) (visited bag.now visits.now))) }
+    ensures { IfOk result (λ known.
+        known.infos ≡ each_once same_info (flat_map (known_at H.digest_of) (visited bag.now visits.now))) }
 {
     let mut infos = Infos::new(alloc);
     for visit in visits {

@@ -30,7 +30,8 @@ pub(crate) fn hash_of_visible<H: Hash32>(bag: &Bag<H>, visit: &Visit) -> Option<
 /// The wanted hashes of some visits.
 fn hashes_of<H: Hash32>(alloc: Global, bag: &Bag<H>, visits: &[Visit]) -> Result<Hashes, Memory>
     requires { All (IsShown H.digest_of bag.now) visits.now }
-    ensures { IfOk result (λ hashes. hashes.all.items ≡ each_once same_hash (flat_map (wanted_at H.digest_of) (visited bag.now visits.now))) }
+    ensures { IfOk result (λ hashes.
+        hashes.all.items ≡ each_once same_hash (flat_map (wanted_at H.digest_of) (visited bag.now visits.now))) }
 {
     let mut hashes = Hashes::new(alloc);
     for visit in visits {

@@ -9,7 +9,7 @@ use Rattle.cd_update.specs.EachOnce.{each_once, first_of}
 use Rattle.cd_update.specs.Grafts.{grafted_info, own_face_at, foreign_at}
 use Rattle.cd_update.specs.UpdateTrees.{tree_of, new_half_of}
 use Rattle.cd_update.proofs.OldTrees.{mask-new}
-use Rattle.cd_update.proofs.HalfVisits.{well-update, kind-update, mask-update, each_once-half, half-places, foreign-half}
+use Rattle.cd_update.proofs.HalfVisits.{update-tree, each_once-half, half-places, foreign-half}
 use Rattle.cd_update.proofs.GraftTrees.{foreign-tree, info-tree, own-tree}
 use Rattle.cd_update.proofs.grafting.graft.Goals as goal
 
@@ -31,11 +31,11 @@ pub invariant_of-it : goal.invariant_of-it
 invariant_of-it g c =
     let H = g.H.Hash32.digest_of in
     let update = c.args.update.now in
-    let bag = update.bag.now in
+    let is_update = update-tree H update.bag.now update.root update.is_bag update.is_update in
     let half = c.in-Ok.half in
     let is = c.in-Ok.ensures in
     let known = c.args.known.now.infos in
-    let low = mask-new H (tree_of update) (well-update H bag update.is_bag update.root update.is_update) (kind-update H bag update.is_bag update.root update.is_update) (mask-update H bag update.is_bag update.root update.is_update) in
+    let low = mask-new H (tree_of update) is_update.well is_update.kind is_update.plain in
     record {
       grafting = record {
         walked = half.walked;

@@ -8,28 +8,28 @@ use Rattle.cd_update.specs.Visits.{visited}
 use Rattle.cd_update.specs.Pairing.{beside, misfit_among, known_at, first_misfit, wanted_hashes, half_root_refusal, pair_refusal, tree_refusal}
 use Rattle.cd_update.specs.UpdateTrees.{tree_of, old_half_of}
 use Rattle.cd_update.proofs.OldTrees.{refusal-half, refusal-tree, known-tree}
-use Rattle.cd_update.proofs.HalfVisits.{or-refused, refused-later, refused-as, well-update, kind-update, each_once-half, misfit-half}
+use Rattle.cd_update.proofs.HalfVisits.{or-refused, refused-later, refused-as, update-tree, each_once-half, misfit-half}
 use Rattle.cd_update.proofs.pairing.pair_old.Goals as goal
 
 pub returns-in-Err-clause-refused : goal.returns-in-Err-clause-refused
 returns-in-Err-clause-refused g c =
     let H = g.H.Hash32.digest_of in
     let update = c.args.update.now in
-    let bag = update.bag.now in
+    let is_update = update-tree H update.bag.now update.root update.is_bag update.is_update in
     let u = tree_of update in
     let root = half_root_refusal H (old_half_of update) c.args.root.now in
     let misfit = option_map (λ x. old_half x) (first_misfit H (beside (wanted_hashes H u) c.args.faces.now) (old_half_of update)) in
-    let split = refusal-half H u (well-update H bag update.is_bag update.root update.is_update) (kind-update H bag update.is_bag update.root update.is_update) c.args.root.now c.args.faces.now in
+    let split = refusal-half H u is_update.well is_update.kind c.args.root.now c.args.faces.now in
     refused-as c.in-Err.fault (option_or root misfit) (pair_refusal H u c.args.root.now c.args.faces.now) (sym split) (or-refused c.in-Err.fault root misfit c.in-Err.ensures)
 
 pub returns-in-Err-clause-refused_tree : goal.returns-in-Err-clause-refused_tree
 returns-in-Err-clause-refused_tree g c t are =
     let H = g.H.Hash32.digest_of in
     let update = c.args.update.now in
-    let bag = update.bag.now in
+    let is_update = update-tree H update.bag.now update.root update.is_bag update.is_update in
     let u = tree_of update in
     refused-as c.in-Err.fault (pair_refusal H u c.args.root.now c.args.faces.now) (tree_refusal H u t)
-    (refusal-tree H u (well-update H bag update.is_bag update.root update.is_update) (kind-update H bag update.is_bag update.root update.is_update) t c.args.root.now c.args.faces.now are)
+    (refusal-tree H u is_update.well is_update.kind t c.args.root.now c.args.faces.now are)
     (returns-in-Err-clause-refused g c)
 
 pub check_visits-requires : goal.check_visits-requires
@@ -42,13 +42,13 @@ pub returns-in-Err-check_visits-clause-refused : goal.returns-in-Err-check_visit
 returns-in-Err-check_visits-clause-refused g c =
     let H = g.H.Hash32.digest_of in
     let update = c.args.update.now in
-    let bag = update.bag.now in
+    let is_update = update-tree H update.bag.now update.root update.is_bag update.is_update in
     let faces = c.args.faces.now in
     let fault = c.in-Err-check_visits.fault in
     let u = tree_of update in
     let root = half_root_refusal H (old_half_of update) c.args.root.now in
     let misfit = option_map (λ x. old_half x) (first_misfit H (beside (wanted_hashes H u) faces) (old_half_of update)) in
-    let split = refusal-half H u (well-update H bag update.is_bag update.root update.is_update) (kind-update H bag update.is_bag update.root update.is_update) c.args.root.now faces in
+    let split = refusal-half H u is_update.well is_update.kind c.args.root.now faces in
     let misfits = misfit-half c.in-Ok.half.walked c.in-Ok.ensures faces c.visits.ensures.value in
     refused-as fault (option_or root misfit) (pair_refusal H u c.args.root.now faces) (sym split)
     (refused-later fault root misfit c.in_default.ensures (refused-as fault _ misfit (ap (option_map (λ x. old_half x)) misfits) c.in-Err-check_visits.ensures))
@@ -57,21 +57,21 @@ pub returns-in-Err-check_visits-clause-refused_tree : goal.returns-in-Err-check_
 returns-in-Err-check_visits-clause-refused_tree g c t are =
     let H = g.H.Hash32.digest_of in
     let update = c.args.update.now in
-    let bag = update.bag.now in
+    let is_update = update-tree H update.bag.now update.root update.is_bag update.is_update in
     let u = tree_of update in
     refused-as c.in-Err-check_visits.fault (pair_refusal H u c.args.root.now c.args.faces.now) (tree_refusal H u t)
-    (refusal-tree H u (well-update H bag update.is_bag update.root update.is_update) (kind-update H bag update.is_bag update.root update.is_update) t c.args.root.now c.args.faces.now are)
+    (refusal-tree H u is_update.well is_update.kind t c.args.root.now c.args.faces.now are)
     (returns-in-Err-check_visits-clause-refused g c)
 
 pub returns-in-Ok-infos_of-clause-refused : goal.returns-in-Ok-infos_of-clause-refused
 returns-in-Ok-infos_of-clause-refused g c =
     let H = g.H.Hash32.digest_of in
     let update = c.args.update.now in
-    let bag = update.bag.now in
+    let is_update = update-tree H update.bag.now update.root update.is_bag update.is_update in
     let faces = c.args.faces.now in
     let u = tree_of update in
     let misfit = option_map (λ x. old_half x) (first_misfit H (beside (wanted_hashes H u) faces) (old_half_of update)) in
-    let split = refusal-half H u (well-update H bag update.is_bag update.root update.is_update) (kind-update H bag update.is_bag update.root update.is_update) c.args.root.now faces in
+    let split = refusal-half H u is_update.well is_update.kind c.args.root.now faces in
     let misfits = misfit-half c.in-Ok.half.walked c.in-Ok.ensures faces c.visits.ensures.value in
     split ∙ ap (λ o. option_or o misfit) c.in_default.ensures ∙ ap (option_map (λ x. old_half x)) (sym misfits) ∙ c.in_default-check_visits.ensures
 
@@ -86,16 +86,16 @@ pub returns-in-Ok-infos_of-clause-refused_tree : goal.returns-in-Ok-infos_of-cla
 returns-in-Ok-infos_of-clause-refused_tree g c t are =
     let H = g.H.Hash32.digest_of in
     let update = c.args.update.now in
-    let bag = update.bag.now in
+    let is_update = update-tree H update.bag.now update.root update.is_bag update.is_update in
     let u = tree_of update in
-    sym (refusal-tree H u (well-update H bag update.is_bag update.root update.is_update) (kind-update H bag update.is_bag update.root update.is_update) t c.args.root.now c.args.faces.now are)
+    sym (refusal-tree H u is_update.well is_update.kind t c.args.root.now c.args.faces.now are)
     ∙ returns-in-Ok-infos_of-clause-refused g c
 
 pub returns-in-Ok-infos_of-clause-tree : goal.returns-in-Ok-infos_of-clause-tree
 returns-in-Ok-infos_of-clause-tree g c t are =
     let H = g.H.Hash32.digest_of in
     let update = c.args.update.now in
-    let bag = update.bag.now in
+    let is_update = update-tree H update.bag.now update.root update.is_bag update.is_update in
     let u = tree_of update in
     returns-in-Ok-infos_of-clause-infos g c
-    ∙ ap (each_once same_info) (known-tree H u (well-update H bag update.is_bag update.root update.is_update) (kind-update H bag update.is_bag update.root update.is_update) t c.args.root.now c.args.faces.now are (returns-in-Ok-infos_of-clause-refused g c))
+    ∙ ap (each_once same_info) (known-tree H u is_update.well is_update.kind t c.args.root.now c.args.faces.now are (returns-in-Ok-infos_of-clause-refused g c))
