@@ -36,7 +36,10 @@ use Rattle.cd_cell.proofs.ListTests.{true_or_false}
 use Rattle.cd_update.proofs.GraftInfos.{IsReady, all-ready, face-good, info-visible, graft-is, or_parts}
 use Rattle.cd_update.proofs.HalfVisits.{IsUpdateTree}
 use Rattle.cd_update.proofs.OldTrees.{mask-new, kid-half}
-use Rattle.cd_prepare.proofs.NewLists.{AreClear, HasParent}
+use Rattle.cd_cell.specs.declared.new_cell.NewCell.{NewCell}
+use Rattle.cd_cell.specs.Listings.{IsValid}
+use Rattle.cd_prepare.specs.NewCells.{AreListed}
+use Rattle.cd_prepare.proofs.NewLists.{AreClear, HasParent, IsValid-faces}
 use Rattle.cd_prepare.proofs.GraftPlaces.{is_visible, place-itself, kid-place, place-parent}
 
 -- faces without a clash
@@ -183,3 +186,10 @@ module _ {H : List ℕ → Hash256} {u : Tree} (update : IsUpdateTree H u) (know
 
     pub root-shown : ((g : FaceView) × Contains faces g × (info_of_face H g ≡ root)) ⊎ Contains known root
     root-shown = place-shown start (place-itself H known half 0)
+
+    -- the own cells in their order are what a prepared value keeps, below the grafted root
+    pub valid-listing : (cells : List NewCell) → AreListed H faces cells → clash_of H faces ≡ None → (r : ChildInfo) (cs : List NewCell) → r ≡ root → cs ≡ cells → IsValid H r cs
+    valid-listing cells listed clear r cs is are_cells =
+        subst (λ x. IsValid H x cs) (sym is)
+        (subst (IsValid H root) (sym are_cells)
+        (IsValid-faces H faces cells listed root good-faces steady-kids (clear-faces H faces clear) parents root-is.0 root-is.2))

@@ -14,7 +14,11 @@ pub fn sort(keys: &mut Vec<EntryKey>)
 }
 
 /// The cells with these keys, each face copied into its place.
-pub fn cells_of(alloc: Global, faces: &[Face], keys: &[EntryKey]) -> Result<Vec<NewCell>, AllocError>
+pub fn cells_of(
+    alloc: Global,
+    faces: &[Face],
+    keys: &[EntryKey],
+) -> Result<Vec<NewCell>, AllocError>
     requires { All (λ key. key.number < length faces.now) keys.now }
     ensures { IfOk result (λ cells. cells.items ≡ map (cell_of_key faces.now) keys.now) }
 {

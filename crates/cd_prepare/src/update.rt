@@ -15,8 +15,7 @@ ghost use Rattle.cd_prepare.specs.Applied.{stated_old, stated_new, clash_fault, 
 use crate::PrepareFault;
 use crate::key::EntryKey;
 use crate::listing::{cells_of, sort};
-use cd_cell::least_clash;
-use cd_cell::{ChildInfo, Face, Hash32, NewCell, Prepared};
+use cd_cell::{ChildInfo, Face, Hash32, NewCell, Prepared, least_clash};
 use cd_update::{Update, graft, pair_old};
 use std::alloc::{AllocError, Global};
 

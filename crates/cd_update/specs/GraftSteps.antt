@@ -25,4 +25,4 @@ module _ (H : List ℕ → Hash256) (known : List ChildInfo) where
   pub record AreGrafted (bag : BagView) (visits : List Visit) (from : ℕ) (infos : List ChildInfo) : Type 0 where
     pub counted : length infos ≡ length visits
     pub done : (k : ℕ) → k < length visits → from ≤ spot (visit_at visits k).node
-      → slice_index_or infos k no_info ≡ grafted_info H known (bag_tree bag (visit_at visits k).node.entry) (visit_at visits k).node.depth
+        → slice_index_or infos k no_info ≡ grafted_info H known (bag_tree bag (visit_at visits k).node.entry) (visit_at visits k).node.depth

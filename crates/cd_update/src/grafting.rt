@@ -181,11 +181,7 @@ impl<H: Hash32> HalfGraft<'_, '_, H> {
         for number in 0..self.half.walk.visits.len() {
             let visit = &self.half.walk.visits[number];
             let shown = self.half.bag.face(visit.node.entry);
-            if is_hidden(
-                shown,
-                shown_info(self.half.bag, visit),
-                visit.node.depth,
-            ) {
+            if is_hidden(shown, shown_info(self.half.bag, visit), visit.node.depth) {
                 continue;
             }
             own.add::<H>(self.new_face(visit, infos), infos[number])?;

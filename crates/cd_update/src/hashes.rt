@@ -4,8 +4,8 @@ ghost use Rattle.cd_cell.specs.Equality.{same_hash};
 ghost use Rattle.cd_update.specs.EachOnce.{with_new};
 ghost use Rattle.cd_cell.specs.Indexes.{IsIndex};
 
-use cd_cell::Index;
 use cd_base::{Hash256, Memory};
+use cd_cell::Index;
 use std::alloc::Global;
 
 /// Hashes in the order in which they came, each once.

@@ -6,9 +6,8 @@ ghost use Rattle.cd_cell.specs.Equality.{same_face};
 ghost use Rattle.cd_update.specs.EachOnce.{with_new};
 ghost use Rattle.cd_cell.specs.Indexes.{IsIndex};
 
-use cd_cell::Index;
 use cd_base::Memory;
-use cd_cell::{ChildInfo, Face, Hash32};
+use cd_cell::{ChildInfo, Face, Hash32, Index};
 use std::alloc::Global;
 
 /// Own cells in the order in which they came, each once, with what they show.

@@ -1,17 +1,17 @@
 -- The update is well-formed and of mask 0, so what is grafted of it is too; over an old tree its faults are the tree's.
-use Rattle.std.proofs.Common.{◌≡◌, Contains, ap, ap₂, sym, subst, ◌∙◌, ◌⊎◌, ⊎_elim, Some}
+use Rattle.std.proofs.Common.{◌≡◌, Contains, refl, ap, ap₂, sym, subst, ◌∙◌, ◌⊎◌, ⊎_elim, Some}
 use Rattle.cd_cell.specs.declared.info.ChildInfo.{ChildInfo}
 use Rattle.cd_cell.specs.FaceView.{FaceView}
 use Rattle.cd_cell.specs.Infos.{rep_of_info}
 use Rattle.cd_cell.specs.Levels.{info_of_face}
-use Rattle.cd_cell.specs.Listings.{IsValid, known_infos, Fits, tree_of}
+use Rattle.cd_cell.specs.Listings.{known_infos, Fits, tree_of}
 use Rattle.cd_cell.specs.Updates.{found_in, known_of, grafted, new_cells}
 use Rattle.cd_cell.proofs.NewCells.{tree_of-new_cells}
 use Rattle.cd_update.specs.Grafts.{grafted_info}
 use Rattle.cd_update.specs.UpdateTrees as update
 use Rattle.cd_update.proofs.HalfVisits.{update-tree}
-use Rattle.cd_prepare.proofs.NewLists.{IsValid-faces, Fits-faces, known-listed}
-use Rattle.cd_prepare.proofs.OwnFaces.{clear-faces, good-faces, steady-kids, parents, root-is, kids-shown, root-shown}
+use Rattle.cd_prepare.proofs.NewLists.{Fits-faces, known-listed}
+use Rattle.cd_prepare.proofs.OwnFaces.{clear-faces, good-faces, valid-listing, root-is, kids-shown, root-shown}
 use Rattle.cd_prepare.proofs.UpdateLaws.{refused-pair, refused-graft, refused-none, refused-clash, clash-none, answer-pair, answer-graft, answer-none, answer-clash, applied-is, known-old, listed-new_cells}
 use Rattle.cd_prepare.proofs.update.prepare_update.Goals as goal
 
@@ -34,27 +34,23 @@ pub new-requires : goal.new-requires
 new-requires g c =
     let H = g.H.Hash32.digest_of in
     let u = c.args.update.now in
-    let is = update-tree H u.bag.now u.root u.is_bag u.is_update in
-    let known = c.in-Ok.known.infos in
-    let old = c.in-Ok.known.old in
     let faces = c.as_slice.result.now in
-    let are = c.as_slice.ensures ∙ c.in-Ok-graft.ensures.cells in
-    let none = c.in-Ok-graft.ensures.refused in
-    let root = root-is is known old none in
-    subst (λ r. IsValid H r c.in-Ok-new_cells.cells.items) (sym c.in-Ok-graft.ensures.root)
-    (IsValid-faces H faces c.in-Ok-new_cells.cells.items c.in-Ok-new_cells.ensures.cells _ (good-faces is known old none faces are) (steady-kids is known old none faces are)
-    (clear-faces H faces (clash-none H faces c.in-Ok-new_cells.ensures.exact)) (parents is known old none faces are) root.0 root.2)
+    valid-listing (update-tree H u.bag.now u.root u.is_bag u.is_update) c.in-Ok.known.infos c.in-Ok.known.old c.in-Ok-graft.ensures.refused faces (c.as_slice.ensures ∙ c.in-Ok-graft.ensures.cells)
+    c.in-Ok-new_cells.cells.items c.in-Ok-new_cells.ensures.cells (clash-none H faces c.in-Ok-new_cells.ensures.exact) _ _ c.in-Ok-graft.ensures.root refl
+
+pub returns-in-Ok-new_cells-clause-valid : goal.returns-in-Ok-new_cells-clause-valid
+returns-in-Ok-new_cells-clause-valid g c =
+    let H = g.H.Hash32.digest_of in
+    let u = c.args.update.now in
+    let faces = c.as_slice.result.now in
+    valid-listing (update-tree H u.bag.now u.root u.is_bag u.is_update) c.in-Ok.known.infos c.in-Ok.known.old c.in-Ok-graft.ensures.refused faces (c.as_slice.ensures ∙ c.in-Ok-graft.ensures.cells)
+    c.in-Ok-new_cells.cells.items c.in-Ok-new_cells.ensures.cells (clash-none H faces c.in-Ok-new_cells.ensures.exact) _ _ (c.new.ensures.root ∙ c.in-Ok-graft.ensures.root) c.new.ensures.cells
 
 pub returns-in-Ok-new_cells-clause-rep : goal.returns-in-Ok-new_cells-clause-rep
 returns-in-Ok-new_cells-clause-rep g c =
     let u = c.args.update.now in
     let root = root-is (update-tree g.H.Hash32.digest_of u.bag.now u.root u.is_bag u.is_update) c.in-Ok.known.infos c.in-Ok.known.old c.in-Ok-graft.ensures.refused in
     ap rep_of_info (c.new.ensures.root ∙ c.in-Ok-graft.ensures.root) ∙ root.1
-
-pub returns-in-Ok-new_cells-clause-valid : goal.returns-in-Ok-new_cells-clause-valid
-returns-in-Ok-new_cells-clause-valid g c =
-    subst (λ r. IsValid g.H.Hash32.digest_of r c.new.result.cells) (sym c.new.ensures.root)
-    (subst (IsValid g.H.Hash32.digest_of c.in-Ok-graft.new.root) (sym c.new.ensures.cells) (new-requires g c))
 
 pub returns-in-Ok-new_cells-clause-exact : goal.returns-in-Ok-new_cells-clause-exact
 returns-in-Ok-new_cells-clause-exact g c t are =

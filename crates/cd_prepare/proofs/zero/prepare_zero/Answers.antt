@@ -1,5 +1,4 @@
-use Rattle.std.proofs.Common.{◌≡◌, ◌<◌, length, slice_index, ap, sym, subst, ◌∙◌, arith}
-use Rattle.cd_cell.specs.Listings.{IsValid}
+use Rattle.std.proofs.Common.{◌≡◌, ◌<◌, length, slice_index, ap, sym, ◌∙◌, arith}
 use Rattle.cd_cell.proofs.BagLaws.{clash_free-bag_trees}
 use Rattle.cd_prepare.proofs.StateLaws.{IsValid-prepared, IsWhole-prepared}
 use Rattle.cd_prepare.proofs.zero.prepare_zero.Goals as goal
@@ -13,8 +12,10 @@ new-requires g c =
 
 pub returns-clause-valid : goal.returns-clause-valid
 returns-clause-valid g c =
-    subst (λ r. IsValid g.H.Hash32.digest_of r c.new.result.cells) (sym c.new.ensures.root)
-    (subst (IsValid g.H.Hash32.digest_of c.of-start.result.info) (sym c.new.ensures.cells) (new-requires g c))
+    let start = c.of-start.result in
+    let bag = start.bag.now in
+    IsValid-prepared g.H.Hash32.digest_of bag.cells bag.refs bag.roots start.is_bag start.number start.there c.new.result.root c.new.result.cells (c.new.ensures.root ∙ start.shown) (c.new.ensures.cells ∙ c.in-Ok.ensures.cells)
+    (ap (λ k. k.mask) c.new.ensures.root ∙ sym c.byte.ensures.value ∙ c.if-byte-ne0.false)
 
 pub returns-clause-whole : goal.returns-clause-whole
 returns-clause-whole g c =
