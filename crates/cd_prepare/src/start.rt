@@ -2,7 +2,7 @@ ghost use Rattle.std.specs.Prelude.{◌≡◌, ◌<◌, length};
 ghost use Rattle.cd_cell.specs.Tree.{info_of};
 ghost use Rattle.cd_cell.specs.Bags.{bag_tree, IsBag};
 
-use cd_cell::{Bag, ChildInfo, Hash32, face_info};
+use cd_cell::{Bag, ChildInfo, Hash32};
 
 /// An entry of a bag, with what its cell shows.
 #[derive(Drop)]
@@ -23,7 +23,7 @@ impl<'a, H: Hash32> Start<'a, H> {
         ensures bag { result.bag.now ≡ bag.now }
         ensures number { result.number ≡ number }
     {
-        let info = face_info::<H>(bag.face(number));
+        let info = bag.info(number);
         Start { bag, number, info }
     }
 }

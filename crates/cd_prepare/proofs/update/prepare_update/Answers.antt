@@ -1,5 +1,5 @@
 -- The update is well-formed and of mask 0, so what is grafted of it is too; over an old tree its faults are the tree's.
-use Rattle.std.proofs.Common.{◌≡◌, Contains, refl, ap, ap₂, sym, subst, ◌∙◌, ◌⊎◌, ⊎_elim, Some}
+use Rattle.std.proofs.Common.{◌≡◌, Contains, refl, ap, ap₂, sym, subst, ◌∙◌, ◌⊎◌, ⊎_elim, [], ◌∷◌}
 use Rattle.cd_cell.specs.declared.info.ChildInfo.{ChildInfo}
 use Rattle.cd_cell.specs.FaceView.{FaceView}
 use Rattle.cd_cell.specs.Infos.{rep_of_info}
@@ -92,10 +92,10 @@ returns-in-Ok-new_cells-clause-applied g c t are =
     let cells_made = c.new.ensures.cells in
     let root_is = root_made ∙ new.root_is in
     let cells_are = cells_made ∙ listed-new_cells H (new_cells H u t) faces (c.as_slice.ensures ∙ new.cells_are) clear cells listed in
-    let shown : (k : ChildInfo) → ((f : FaceView) × Contains faces f × (info_of_face H f ≡ k)) ⊎ Contains known k → Contains (known_infos H cells (Some t)) k =
+    let shown : (k : ChildInfo) → ((f : FaceView) × Contains faces f × (info_of_face H f ≡ k)) ⊎ Contains known k → Contains (known_infos H cells (t ∷ [])) k =
     λ k h.
     ⊎_elim
-    (λ own. subst (Contains (known_infos H cells (Some t))) own.2 (known-listed H faces cells listed (Some t) own.0 own.1))
+    (λ own. subst (Contains (known_infos H cells (t ∷ []))) own.2 (known-listed H faces cells listed (t ∷ []) own.0 own.1))
     (λ there. known-old H u t known met cells k there)
     h
     in
@@ -105,13 +105,13 @@ returns-in-Ok-new_cells-clause-applied g c t are =
       root_is = root_is;
       cells_are = cells_are;
       fits =
-          subst (λ r. Fits H r c.new.result.cells (Some t)) (sym (root_made ∙ c.in-Ok-graft.ensures.root))
-          (subst (λ cs. Fits H (grafted_info H known half 0) cs (Some t)) (sym cells_made)
-          (Fits-faces H faces cells listed (grafted_info H known half 0) (Some t)
+          subst (λ r. Fits H r c.new.result.cells (t ∷ [])) (sym (root_made ∙ c.in-Ok-graft.ensures.root))
+          (subst (λ cs. Fits H (grafted_info H known half 0) cs (t ∷ [])) (sym cells_made)
+          (Fits-faces H faces cells listed (grafted_info H known half 0) (t ∷ [])
           (shown (grafted_info H known half 0) (root-shown is known old none faces made))
           (λ f h k kid. shown k (kids-shown is known old none faces made f h k kid))));
       stands = λ free.
-          ap₂ (λ r cs. tree_of H r cs (Some t)) root_is cells_are
+          ap₂ (λ r cs. tree_of H r cs (t ∷ [])) root_is cells_are
           ∙ tree_of-new_cells H u t is.well are.well is.kind is.plain tree applies free;
     }
 
