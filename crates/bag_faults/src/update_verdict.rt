@@ -4,7 +4,7 @@ ghost use Rattle.cd_cell.specs.Bags.{bag_tree};
 ghost use Rattle.cd_boc_read.specs.Grammar.{Spells};
 ghost use Rattle.cd_update.specs.Pairing.{wanted_hashes};
 ghost use Rattle.cd_prepare.specs.States.{Answers};
-ghost use Rattle.cd_prepare.specs.Applied.{update_fault, IsApplied};
+ghost use Rattle.cd_prepare.specs.Applied.{update_fault, IsUpdateApplied};
 ghost use Rattle.bag_faults.specs.OldStates.{state_of};
 ghost use Rattle.bag_faults.specs.UpdateVerdicts.{IsTrueOver};
 
@@ -43,7 +43,7 @@ fn prepare<H: Hash32>(
 ) -> Result<Prepared<H>, PrepareFault>
     requires { wanted.now ≡ wanted_hashes H.digest_of (bag_tree update.now.bag.now update.now.root) }
     ensures exact { Answers (update_fault H.digest_of (bag_tree update.now.bag.now update.now.root) (state_of H.digest_of state.now.whole.root state.now.whole.cells)) result }
-    ensures applied { IfOk result (λ value. IsApplied H.digest_of (bag_tree update.now.bag.now update.now.root) (state_of H.digest_of state.now.whole.root state.now.whole.cells) value.root value.cells) }
+    ensures applied { IfOk result (λ value. IsUpdateApplied H.digest_of (bag_tree update.now.bag.now update.now.root) (state_of H.digest_of state.now.whole.root state.now.whole.cells) value.root value.cells) }
 {
     match state.faces(alloc, wanted) {
         Ok(faces) => prepare_update(alloc, update, state.whole.root(), &faces),
