@@ -124,29 +124,3 @@ impl<H: Hash32> Bag<H> {
         *self.face(a) == *self.face(b)
     }
 }
-
-#[cfg(test)]
-mod tests {
-    use super::*;
-    use crate::{Bits, Sha};
-    use std::test::Fail;
-
-    #[test]
-    fn a_bag_of_the_empty_cell(rt: HostRuntime) -> Result<(), Fail> {
-        let alloc = rt.alloc();
-        let bits = Bits::from_slice(&[], 0).ok_or("bits")?;
-        let mut cells = Vec::new(alloc);
-        cells.push(Face::new(false, bits, &[]))?;
-        let mut refs = Vec::new(alloc);
-        refs.push([0; 4])?;
-        let mut roots = Vec::new(alloc);
-        roots.push(0)?;
-        let bag: Bag<Sha> = Bag::new(cells, refs, roots);
-        assert_eq!(rt; bag.face(0).refs(), 0);
-        assert_eq!(rt; bag.children(0).len(), 0);
-        assert_eq!(rt; bag.info(0).depths, [0; 4]);
-        assert!(rt; bag.same(0, 0));
-        assert_eq!(rt; bag.roots().len(), 1);
-        Ok(())
-    }
-}

@@ -1,7 +1,7 @@
 ghost use Rattle.std.specs.Prelude.{◌≡◌, ◌+◌, length, All, OnOk, IfOk};
 ghost use Rattle.cd_cell.specs.GoodFace.{IsGoodFace};
 
-use crate::{WriteFault, lay_out, put_cell, write_bag};
+use cd_boc_write::{WriteFault, lay_out, put_cell, write_bag};
 use cd_cell::{Bits, ChildInfo, Face, NewCell, Sha, face_info};
 use std::alloc::Global;
 use std::test::Fail;

@@ -1,4 +1,4 @@
-use crate::{Bits, CellFault, ChildInfo, Face, Hash32, Kind, Mask, Sha, WeakSum, face_info};
+use cd_cell::{Bits, CellFault, ChildInfo, Face, Hash32, Kind, Mask, Sha, WeakSum, face_info};
 use cd_base::Hash256;
 use std::test::Fail;
 

@@ -1,7 +1,7 @@
 ghost use Rattle.std.specs.Prelude.{◌≤◌};
 
-use crate::{BagFault, read_bag};
 use cd_base::Hash256;
+use cd_boc_read::{BagFault, read_bag};
 use cd_cell::{CellFault, Hash32, Sha, WeakSum};
 use std::alloc::{AllocError, Global};
 use std::test::Fail;
@@ -386,5 +386,27 @@ fn a_chain_may_be_1024_deep(rt: HostRuntime) -> Result<(), Fail> {
         fault: CellFault::DepthBig { depth: 1025 },
     };
     assert_eq!(rt; read::<Sha>(alloc, &chain(alloc, 1026)?), Err(fault));
+    Ok(())
+}
+
+#[test]
+fn faults_have_texts(rt: HostRuntime) -> Result<(), Fail> {
+    let alloc = rt.alloc();
+    let cases = [
+        (BagFault::Magic { value: 0x68ff_65f3 }, "magic number 68ff65f3"),
+        (BagFault::Crc { stated: 1, real: 0xbb13_d05e }, "checksum 00000001, not bb13d05e"),
+        (
+            BagFault::Cell {
+                cell: 7,
+                fault: CellFault::DepthBig { depth: 1025 },
+            },
+            "cell 7: a cell of depth 1025",
+        ),
+        (BagFault::Memory, "no memory"),
+    ];
+    for (fault, text) in cases {
+        let shown = fault.to_string(alloc)?;
+        assert_eq!(rt; shown.as_str(), text);
+    }
     Ok(())
 }

@@ -1,7 +1,7 @@
 use Rattle.std.proofs.Common.{All, sym, subst}
 use Rattle.std.proofs.lemmas.List.Elements.{All-push}
 use Rattle.cd_cell.specs.GoodFace.{IsGoodFace}
-use Rattle.cd_boc_write.proofs.tests.list.Goals as goal
+use Rattle.cd_boc_tests.proofs.export.list.Goals as goal
 
 pub returns-clause-good : goal.returns-clause-good
 returns-clause-good c = λ all.
