@@ -24,8 +24,8 @@ returns g c = λ state lists.
     let value = c.args.value.now in
     let order = c.in_ok-order.order.items in
     let root = zero_id (rep_of H state) in
-    let id : c.id_of-id.result ≡ root = c.id_of-id.ensures ∙ ap zero_id (c.rep.ensures ∙ ap rep_of_info lists.whole.root_is) in
-    let height : c.height.result ≡ height_of H state = c.height.ensures ∙ ap height_of_info lists.whole.root_is in
+    let id : c.id_of-id.result ≡ root = c.id_of-id.ensures ∙ ap zero_id (c.rep.ensures ∙ ap rep_of_info (c.root.ensures.value ∙ lists.whole.root_is)) in
+    let height : c.height.result ≡ height_of H state = c.height.ensures ∙ ap height_of_info (c.root-2.ensures.value ∙ lists.whole.root_is) in
     let puts =
     rw c.deref-2.ensures.value at c.in_ok-puts.ensures
     ∙ puts-are H state lists.clear value.root value.cells lists.whole order c.in_ok-order.ensures root in
