@@ -1,4 +1,8 @@
+pub mod Words
 pub mod Verdicts
 pub mod OldStates
 pub mod StateFaults
+pub mod UpdateTrees
 pub mod UpdateVerdicts
+pub mod EndText
+pub mod Ends

@@ -1,11 +1,10 @@
 ghost use Rattle.std.specs.Prelude.{◌≡◌, IfSome};
 ghost use Rattle.cd_keeper.specs.Contents.{no_contents};
 
-use crate::{Ended, InputFault, Status, TopRefusal, WordFault, celldb_once};
 use cd_base::{Hash256, MemorySink, MemorySource, Sink, Source, SteadySink, SteadySource};
-use cd_boc_read::BagFault;
-use cd_cell::{Mask, Sha};
+use cd_cell::Sha;
 use cd_keeper::{KeepFault, Keeper, MemoryKeeper, SteadyKeeper};
+use cd_top::{Ended, Status, celldb_once};
 use std::alloc::Global;
 use std::test::Fail;
 
@@ -26,12 +25,6 @@ const EMPTY: Hash256 = Hash256([
 const EMPTY_LINES: &str =
     "id (-1,8000000000000000,0):96a296d224f285c67bee93c30f8a309157f0daa35dc5b87e410b78630a09cfc7:0000000000000000000000000000000000000000000000000000000000000000\ncells 1\n";
 
-fn words(alloc: Global, word: &str) -> Result<Vec<String>, Fail> {
-    let mut words = Vec::new(alloc);
-    words.push(String::from_str(alloc, word)?)?;
-    Ok(words)
-}
-
 /// The command `zero` over these objects.
 fn zero<S: Source, O: Sink, K: Keeper>(
     alloc: Global,
@@ -41,11 +34,13 @@ fn zero<S: Source, O: Sink, K: Keeper>(
 ) -> Result<(Status, K), Fail>
     requires { IfSome (K.held keeper) (λ contents. contents ≡ no_contents) }
 {
+    let mut words = Vec::new(alloc);
+    words.push(String::from_str(alloc, "zero")?)?;
     let Ended {
         status,
         keeper,
         of: _,
-    } = celldb_once::<S, O, K, Sha>(alloc, &words(alloc, "zero")?, input, out, keeper);
+    } = celldb_once::<S, O, K, Sha>(alloc, &words, input, out, keeper);
     Ok((status, keeper))
 }
 
@@ -80,15 +75,7 @@ fn one_cell_is_stored_and_printed(rt: HostRuntime) -> Result<(), Fail> {
     assert!(rt; out.taken() == EMPTY_LINES.as_bytes());
     assert!(rt; has_cell(&mut keeper, &EMPTY, &[1, 0, 0, 0, 1, 0, 0])?);
     assert!(rt; keeper.batches() == 1);
-    Ok(())
-}
-
-#[test]
-fn a_description_has_version_root_and_depth(rt: HostRuntime) -> Result<(), Fail> {
-    let alloc = rt.alloc();
-    let mut input = SteadySource::new(ONE_CELL.to_vec(alloc)?);
-    let mut out = SteadySink::new(alloc);
-    let (_, mut keeper) = zero(alloc, &mut input, &mut out, SteadyKeeper::new(alloc))?;
+    // The description has a version, the root and its depth.
     let mut due = [1, 0, 0].to_vec(alloc)?;
     due.extend_from_slice(&EMPTY.0)?;
     due.extend_from_slice(&[0, 0, 0])?;
@@ -111,103 +98,6 @@ fn a_child_in_four_places_counts_four(rt: HostRuntime) -> Result<(), Fail> {
     let root = if first == EMPTY { second } else { first };
     let record = keeper.get_cell(&root)?.ok_or("no root")?;
     assert!(rt; record.as_slice().starts_with(&[1, 0, 0, 0, 1, 4, 0]));
-    Ok(())
-}
-
-#[test]
-fn other_words_are_usage(rt: HostRuntime) -> Result<(), Fail> {
-    let alloc = rt.alloc();
-    let mut input = SteadySource::new(ONE_CELL.to_vec(alloc)?);
-    let mut out = SteadySink::new(alloc);
-    let words = words(alloc, "zeros")?;
-    let Ended {
-        status,
-        keeper: _,
-        of: _,
-    } = celldb_once::<_, _, _, Sha>(
-        alloc,
-        &words,
-        &mut input,
-        &mut out,
-        SteadyKeeper::new(alloc),
-    );
-    assert!(rt; status == Status::Usage(WordFault::Usage));
-    assert!(rt; status.code() == 1);
-    assert!(rt; status.line() == Some("celldb: usage"));
-    Ok(())
-}
-
-/// The status over these bytes, where no batch was applied and nothing was written.
-fn untouched(alloc: Global, bytes: &[u8]) -> Result<Option<Status>, Fail> {
-    let mut input = SteadySource::new(bytes.to_vec(alloc)?);
-    let mut out = SteadySink::new(alloc);
-    let (status, keeper) = zero(alloc, &mut input, &mut out, SteadyKeeper::new(alloc))?;
-    if keeper.batches() > 0 || !out.taken().is_empty() {
-        return Ok(None);
-    }
-    Ok(Some(status))
-}
-
-/// Why these bytes are no bag, where nothing was touched.
-fn bag_fault(alloc: Global, bytes: &[u8]) -> Result<Option<BagFault>, Fail> {
-    match untouched(alloc, bytes)? {
-        Some(Status::BadInput(InputFault::Bag(fault))) => Ok(Some(fault)),
-        _ => Ok(None),
-    }
-}
-
-/// Why these bytes are no state, where nothing was touched.
-fn refusal(alloc: Global, bytes: &[u8]) -> Result<Option<TopRefusal>, Fail> {
-    match untouched(alloc, bytes)? {
-        Some(Status::Refused(refusal)) => Ok(Some(refusal)),
-        _ => Ok(None),
-    }
-}
-
-#[test]
-fn each_cut_of_a_bag_is_told(rt: HostRuntime) -> Result<(), Fail> {
-    let alloc = rt.alloc();
-    for at in 0..ONE_CELL.len() {
-        let due = BagFault::Cut { at: at as u64 };
-        assert!(rt; bag_fault(alloc, &ONE_CELL[..at])? == Some(due));
-    }
-    Ok(())
-}
-
-#[test]
-fn other_bytes_than_a_bag_are_refused(rt: HostRuntime) -> Result<(), Fail> {
-    let alloc = rt.alloc();
-    let longer = [0xb5, 0xee, 0x9c, 0x72, 1, 1, 1, 1, 0, 2, 0, 0, 0, 0];
-    assert!(rt; bag_fault(alloc, &longer)? == Some(BagFault::Extra { at: 13 }));
-    let older = [0x68, 0xff, 0x65, 0xf3, 1, 1, 1, 1, 0, 2, 0, 0, 0];
-    let magic = BagFault::Magic { value: 0x68ff_65f3 };
-    assert!(rt; bag_fault(alloc, &older)? == Some(magic));
-    let absent = [0xb5, 0xee, 0x9c, 0x72, 1, 1, 1, 1, 1, 2, 0, 0, 0];
-    assert!(rt; bag_fault(alloc, &absent)? == Some(BagFault::Absent { absent: 1 }));
-    Ok(())
-}
-
-#[test]
-fn a_bag_of_two_roots_is_no_state(rt: HostRuntime) -> Result<(), Fail> {
-    let two = [0xb5, 0xee, 0x9c, 0x72, 1, 1, 2, 2, 0, 4, 0, 1, 0, 0, 0, 0];
-    let due = Some(TopRefusal::Roots { roots: 2 });
-    assert!(rt; refusal(rt.alloc(), &two)? == due);
-    Ok(())
-}
-
-#[test]
-fn a_pruned_branch_is_no_state(rt: HostRuntime) -> Result<(), Fail> {
-    let alloc = rt.alloc();
-    // One cell of 38 bytes: a pruned branch of mask 1, with a hash and the depth 23.
-    let mut bytes = [0xb5, 0xee, 0x9c, 0x72, 1, 1, 1, 1, 0, 38, 0, 40, 72, 1, 1].to_vec(alloc)?;
-    bytes.extend_from_slice(&[7; 32])?;
-    bytes.extend_from_slice(&[0, 23])?;
-    let mask = Mask::of(1).ok_or("mask")?;
-    let found = refusal(alloc, &bytes)?.ok_or("another end")?;
-    assert!(rt; found == TopRefusal::Level { mask });
-    let status = Status::Refused(found);
-    assert!(rt; status.code() == 8);
-    assert!(rt; status.line() == Some("celldb: refused Level"));
     Ok(())
 }
 
