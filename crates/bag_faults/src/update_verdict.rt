@@ -2,7 +2,7 @@ ghost use Rattle.std.specs.Prelude.{◌≡◌, ℕ, List, ◌∷◌, [], IfOk, I
 ghost use Rattle.hex.specs.Hex.{decode_of};
 ghost use Rattle.cd_boc_read.specs.Grammar.{Spells};
 ghost use Rattle.cd_update.specs.Pairing.{wanted_hashes};
-ghost use Rattle.bag_faults.specs.UpdateTrees.{tree_of};
+ghost use Rattle.cd_update.specs.UpdateTrees.{tree_of};
 ghost use Rattle.cd_prepare.specs.States.{Answers};
 ghost use Rattle.cd_prepare.specs.Applied.{update_fault, IsUpdateApplied};
 ghost use Rattle.bag_faults.specs.OldStates.{state_of};

@@ -1,7 +1,7 @@
 -- The faces beside the wanted hashes are those of the state, so the answer is that of its tree.
 use Rattle.std.proofs.Common.{map, ap, ◌∙◌}
 use Rattle.std.proofs.lemmas.Result.{IfOk-weaker}
-use Rattle.bag_faults.specs.UpdateTrees.{tree_of}
+use Rattle.cd_update.specs.UpdateTrees.{tree_of}
 use Rattle.bag_faults.specs.OldStates.{face_in, state_of}
 use Rattle.bag_faults.proofs.OldStateLaws.{AreOf-state}
 use Rattle.bag_faults.proofs.update_verdict.prepare.Goals as goal
