@@ -5,7 +5,6 @@ use Rattle.std.specs.Bool.{Decides}
 use Rattle.std.specs.Option.{option_or}
 use Rattle.std.proofs.lemmas.List.{map-append, get_or_default}
 use Rattle.cd_base.specs.declared.hash.Hash256.{Hash256}
-use Rattle.cd_cell.specs.FaceView.{FaceView}
 use Rattle.cd_cell.specs.BagView.{BagView}
 use Rattle.cd_cell.specs.Levels.{kid_level}
 use Rattle.cd_cell.specs.Tree.{Tree, cell, Trees, no_trees, tree_and, list_of, children, face_of}

@@ -1,5 +1,5 @@
 -- The visits of a half of an update are its places, each once.
-use Rattle.std.proofs.Common.{◌≡◌, ℕ, ◌<◌, List, length, flat_map, Bool, Option, Some, None, refl, ap, ap₂, sym, ◌∙◌, inl, inr, ◌⊎◌}
+use Rattle.std.proofs.Common.{◌≡◌, ℕ, List, flat_map, Bool, Option, Some, None, refl, ap, ap₂, sym, ◌∙◌, inl, inr, ◌⊎◌}
 use Rattle.std.specs.Bool.{Decides}
 use Rattle.std.specs.Option.{option_or}
 use Rattle.cd_base.specs.declared.hash.Hash256.{Hash256}
