@@ -1,5 +1,5 @@
--- Trusted: what is wrong with the cells of a bag, once their texts are read: from the last cell downwards the first fault of
--- each, and then the least hash that two different cells have.
+-- Trusted: what is wrong with the cells of a bag, once their texts are read: from the last cell downwards the first
+-- fault of each, and then the least hash that two different cells have.
 use Rattle.std.specs.Prelude.{ℕ, ◌+◌, Bool, true, not, ◌&&◌, ◌==◌, List, [], ◌∷◌, Option, Some, None, is_some, if◌then◌else◌}
 use Rattle.std.specs.Option.{option_or, option_map}
 use Rattle.std.specs.Str.{bytes_eq}
@@ -50,7 +50,10 @@ module _ (H : List ℕ → Hash256) where
   abbrev pub infos_of_texts : List Text → List ChildInfo
   infos_of_texts ts = infos_from H 0 (entries_of_texts ts)
 
+  -- the first fault of a cell, from the last one downwards
+  abbrev pub fault_of_cells : List Text → Option BagFault
+  fault_of_cells ts = cells_fault 0 ts (faces_of_texts ts)
+
   -- the first fault of all the cells
   abbrev pub fault_of_texts : List Text → Option BagFault
-  fault_of_texts ts =
-      let faces = faces_of_texts ts in option_or (cells_fault 0 ts faces) (option_map Clash (clash_of H faces))
+  fault_of_texts ts = option_or (fault_of_cells ts) (option_map Clash (clash_of H (faces_of_texts ts)))

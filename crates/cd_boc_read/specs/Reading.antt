@@ -1,9 +1,11 @@
--- Trusted: reading a bag from left to right, with the first fault that is met: the frame, and then the texts of the cells.
+-- Trusted: reading a bag from left to right, with the first fault that is met: the frame, and then the texts of the
+-- cells.
 use Rattle.std.specs.Prelude.{ℕ, zero, suc, ◌+◌, ◌-◌, ◌*◌, ◌/◌, ◌%◌, Bool, true, not, ◌&&◌, ◌||◌, ◌==◌, nat_lt, nat_le, List, [], ◌∷◌, length, take, drop, slice_index, Some, None, Result, Ok, Err, if◌then◌else◌}
 use Rattle.std.specs.List.{list_all}
 use Rattle.cd_base.specs.Numbers.{from_big, from_little}
 use Rattle.cd_base.specs.Reading.{◌>>=◌, require, part_at, byte_at, number_at}
 use Rattle.cd_base.specs.Checksum.{crc32c}
+use Rattle.cd_cell.specs.declared.limits.TheConstants.{MOST_CELLS}
 use Rattle.cd_cell.specs.BitText.{data_bits}
 use Rattle.cd_boc_write.specs.declared.shape.Shape.{Shape}
 use Rattle.cd_boc_write.specs.Frames.{Frame}
@@ -63,13 +65,14 @@ counts_at cut shape bytes = do
   total ← number_at cut shape.off_bytes absent.1
   _ ← require (nat_le 1 roots.0 && nat_le roots.0 cells.0) (Roots roots.0 cells.0)
   _ ← require (absent.0 == 0) (Absent absent.0)
-  _ ← require (nat_le cells.0 1048576) (Limit cells.0)
+  _ ← require (nat_le cells.0 MOST_CELLS) (Limit cells.0)
   Ok (record { cells = cells.0; roots = roots.0; total = total.0 }, total.1)
 
 -- each of the numbers, of which the first stands in this place, names a cell
 unfoldable pub are_cells : ℕ → ℕ → List ℕ → Result (Unit {0}) BagFault
 are_cells cells place [] = Ok tt
-are_cells cells place (number ∷ numbers) = if nat_lt number cells then are_cells cells (place + 1) numbers else Err (RootIndex place)
+are_cells cells place (number ∷ numbers) =
+    if nat_lt number cells then are_cells cells (place + 1) numbers else Err (RootIndex place)
 
 -- the root list
 unfoldable pub roots_at : BagFault → ℕ → Counts → List ℕ → Result (List ℕ × List ℕ) BagFault
@@ -151,7 +154,8 @@ text_at fault size cells number (first ∷ second ∷ bytes) =
 
 -- what the index states first, if there is an index, is this end
 unfoldable pub is_end : Shape → List ℕ → ℕ → Bool
-is_end shape index end = if shape.has_index then end_of_entry shape (from_big (take shape.off_bytes index)) == end else true
+is_end shape index end =
+    if shape.has_index then end_of_entry shape (from_big (take shape.off_bytes index)) == end else true
 
 -- the texts of the cells that are left, which take all that is left of so many bytes
 unfoldable pub texts_at : Shape → ℕ → ℕ → ℕ → ℕ → List ℕ → List ℕ → Result (List Text) BagFault
@@ -163,6 +167,10 @@ texts_at shape cells total (suc left) number index bytes = do
   _ ← require (is_end shape index (total - length text.1)) (Index number)
   others ← texts_at shape cells total left (number + 1) (drop shape.off_bytes index) text.1
   Ok (text.0 ∷ others)
+
+-- the texts of all cells of a frame
+abbrev pub all_texts_at : FrameParts → Result (List Text) BagFault
+all_texts_at parts = texts_at parts.shape parts.cells (length parts.cell_data) parts.cells 0 parts.index parts.cell_data
 
 -- ---- the bag
 
@@ -180,5 +188,5 @@ frame_of parts = record {
 unfoldable pub bag_at : List ℕ → Result (Frame × List Text) BagFault
 bag_at bytes = do
   parts ← frame_at bytes
-  texts ← texts_at parts.shape parts.cells (length parts.cell_data) parts.cells 0 parts.index parts.cell_data
+  texts ← all_texts_at parts
   Ok (frame_of parts, texts)
