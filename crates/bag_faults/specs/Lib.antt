@@ -2,7 +2,6 @@ pub mod Words
 pub mod Verdicts
 pub mod OldStates
 pub mod StateFaults
-pub mod UpdateTrees
 pub mod UpdateVerdicts
 pub mod EndText
 pub mod Ends

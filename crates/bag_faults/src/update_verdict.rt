@@ -2,9 +2,9 @@ ghost use Rattle.std.specs.Prelude.{◌≡◌, ℕ, List, ◌∷◌, [], IfOk, I
 ghost use Rattle.hex.specs.Hex.{decode_of};
 ghost use Rattle.cd_boc_read.specs.Grammar.{Spells};
 ghost use Rattle.cd_update.specs.Pairing.{wanted_hashes};
-ghost use Rattle.bag_faults.specs.UpdateTrees.{tree_of};
+ghost use Rattle.cd_update.specs.UpdateTrees.{tree_of};
 ghost use Rattle.cd_prepare.specs.States.{Answers};
-ghost use Rattle.cd_prepare.specs.Applied.{update_fault, IsApplied};
+ghost use Rattle.cd_prepare.specs.Applied.{update_fault, IsUpdateApplied};
 ghost use Rattle.bag_faults.specs.OldStates.{state_of};
 ghost use Rattle.bag_faults.specs.UpdateVerdicts.{IsTrueOver, IsTrueOverLine};
 
@@ -44,7 +44,7 @@ fn prepare<H: Hash32>(
     ensures exact { Answers
         (update_fault H.digest_of (tree_of update.now) (state_of H.digest_of state.now.whole)) result }
     ensures applied { IfOk result (λ value.
-        IsApplied H.digest_of (tree_of update.now) (state_of H.digest_of state.now.whole) value.root value.cells) }
+        IsUpdateApplied H.digest_of (tree_of update.now) (state_of H.digest_of state.now.whole) value.root value.cells) }
 {
     match state.faces(alloc, wanted) {
         Ok(faces) => prepare_update(alloc, update, state.whole.root(), &faces),

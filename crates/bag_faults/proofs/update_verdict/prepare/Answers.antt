@@ -2,7 +2,7 @@
 use Rattle.std.proofs.Common.{map, ap, sym, subst, ◌∙◌}
 use Rattle.std.proofs.lemmas.Result.{IfOk-weaker}
 use Rattle.cd_update.specs.Pairing.{AreOf}
-use Rattle.bag_faults.specs.UpdateTrees.{tree_of}
+use Rattle.cd_update.specs.UpdateTrees.{tree_of}
 use Rattle.bag_faults.specs.OldStates.{face_in, state_of}
 use Rattle.bag_faults.proofs.OldStateLaws.{AreOf-state}
 use Rattle.bag_faults.proofs.update_verdict.prepare.Goals as goal

@@ -2,7 +2,7 @@
 use Rattle.std.proofs.Common.{length, ap, ◌∙◌, arith}
 use Rattle.std.proofs.lemmas.List.{length-map}
 use Rattle.cd_cell.specs.Infos.{rep_of_info}
-use Rattle.bag_faults.specs.UpdateTrees.{tree_of}
+use Rattle.cd_update.specs.UpdateTrees.{tree_of}
 use Rattle.cd_cell.specs.Export.{export_cmp, sorted_distinct}
 use Rattle.cd_cell.specs.Listings.{new_cell_of}
 use Rattle.cd_cell.specs.Updates.{new_cells}

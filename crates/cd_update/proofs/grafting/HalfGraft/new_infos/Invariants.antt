@@ -1,12 +1,12 @@
 -- The visits from a spot on have been worked out.
 use Rattle.std.proofs.Common.{◌≤◌, length}
-use Rattle.cd_update.specs.Grafts.{AreGrafted}
-use Rattle.cd_update.proofs.grafting.new_infos.Given as goal
+use Rattle.cd_update.specs.GraftWalks.{AreDone}
+use Rattle.cd_update.proofs.grafting.HalfGraft.new_infos.Given as goal
 
 abbrev pub invariant-loop-left : goal.invariant-loop-left
 invariant-loop-left g l = record {
-  grafted : AreGrafted g.H.Hash32.digest_of l.known.infos l.bag.cells l.bag.refs l.walk.visits.items l.left l.infos.items;
-  low : l.left ≤ length l.walk.numbers.items;
+  done : AreDone g.H.Hash32.digest_of l.self l.left l.infos.items;
+  low : l.left ≤ length l.self.half.walk.numbers.items;
 }
 
 abbrev pub decreases-loop-left : goal.decreases-loop-left

@@ -1,16 +1,16 @@
 use Rattle.std.proofs.Common.{◌<◌, length, map, All, ap, sym, subst, ◌∙◌}
 use Rattle.std.proofs.lemmas.Result.{IfOk-weaker}
-use Rattle.cd_prepare.specs.declared.key.Key.{Key}
+use Rattle.cd_prepare.specs.declared.key.EntryKey.{EntryKey}
 use Rattle.cd_prepare.specs.Keys.{cell_of_key}
 use Rattle.cd_prepare.specs.NewCells.{AreListed}
 use Rattle.cd_prepare.proofs.NewLists.{keys-there, AreListed-sorted}
 use Rattle.cd_prepare.proofs.OwnFaces.{clear-faces}
-use Rattle.cd_prepare.proofs.update.listed.Goals as goal
+use Rattle.cd_prepare.proofs.update.listing_of.Goals as goal
 
 pub cells_of-requires : goal.cells_of-requires
 cells_of-requires g c =
     let faces = c.args.faces.now in
-    subst (All (λ (key : Key). key.number < length faces)) (sym c.deref.ensures.value)
+    subst (All (λ (key : EntryKey). key.number < length faces)) (sym c.deref.ensures.value)
     (keys-there g.H.Hash32.digest_of faces c.requires.good c.args.infos.now c.requires.shown c.in_ok-keys.keys.items c.sort.new.keys.items c.in_ok-keys.ensures c.sort.ensures)
 
 pub returns : goal.returns

@@ -5,7 +5,7 @@ use Rattle.cd_cell.specs.Infos.{no_hash}
 use Rattle.cd_cell.specs.Equality.{same_hash, same_hash-Decides}
 use Rattle.cd_cell.specs.Indexes.{IsIndex}
 use Rattle.cd_update.proofs.EachOnceLaws.{with_new-there}
-use Rattle.cd_update.proofs.hashes.Hashes.place_of.Goals as goal
+use Rattle.cd_update.proofs.hashes.Hashes.add.Goals as goal
 
 pub returns-in-Some-clause-all : goal.returns-in-Some-clause-all
 returns-in-Some-clause-all c =
