@@ -1,6 +1,5 @@
 -- The faces beside the wanted hashes are those of the state, so the answer is that of its tree.
 use Rattle.std.proofs.Common.{map, ap, sym, subst, ◌∙◌}
-use Rattle.std.proofs.lemmas.Result.{IfOk-weaker}
 use Rattle.cd_update.specs.Pairing.{AreOf}
 use Rattle.cd_update.specs.UpdateTrees.{tree_of}
 use Rattle.bag_faults.specs.OldStates.{face_in, state_of}
@@ -19,5 +18,5 @@ returns-in-Ok g c =
     let are : AreOf H t u c.root.result.now c.deref.result.now = subst (λ root. AreOf H t u root c.deref.result.now) (sym c.root.ensures.value) own in
     record {
       exact = c.prepare_update.ensures.exact t are;
-      applied = IfOk-weaker c.prepare_update.result _ _ (λ value each. each t are) c.prepare_update.ensures.applied;
+      applied = c.prepare_update.ensures.applied t are;
     }

@@ -23,8 +23,8 @@ returns-in-Ok-prepare g c =
       record {
         tree = applied.tree;
         is_applied = applied.is_applied;
-        root_is = c.rep.ensures ∙ ap rep_of_info applied.root_is;
+        root_is = c.rep.ensures ∙ ap rep_of_info (c.root.ensures.value ∙ applied.root_is);
         shown_is = omega (arith, c.len.ensures, c.in-Ok.wanted.ok, ap length c.in-Ok.ensures);
-        new_is = ap length (c.as_slice.ensures ∙ applied.cells_are) ∙ length-map (sorted_distinct (export_cmp H) (new_cells H u t)) (new_cell_of H);
+        new_is = ap length (c.cells.ensures.value ∙ applied.cells_are) ∙ length-map (sorted_distinct (export_cmp H) (new_cells H u t)) (new_cell_of H);
       },
     )
