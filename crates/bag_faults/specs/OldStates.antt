@@ -1,5 +1,5 @@
 -- Old states: all cells of a tree, which are found by their hashes.
-use Rattle.std.specs.Prelude.{◌≡◌, ℕ, List, map, find, Contains, Option, None}
+use Rattle.std.specs.Prelude.{◌≡◌, ℕ, List, map, find, Contains, Option, None, []}
 use Rattle.std.specs.Option.{option_map}
 use Rattle.std.specs.BTreeMap.{BTreeMap}
 use Rattle.cd_base.specs.declared.hash.Hash256.{Hash256}
@@ -24,7 +24,7 @@ IsIndexed places cells = IsIndex (record { places = places }) (map (λ c. c.hash
 module _ (H : List ℕ → Hash256) where
   -- the tree that a root and listed cells stand for, without an old tree
   abbrev pub state_of : ChildInfo → List NewCell → Tree
-  state_of root cells = tree_of H root cells None
+  state_of root cells = tree_of H root cells []
 
   -- they are all cells of that tree, which is well-formed and free of clashes
   pub record IsState (root : ChildInfo) (cells : List NewCell) : Type 0 where

@@ -1,6 +1,6 @@
 -- The bag that read texts make, what its bytes spell, and that what is spelt has no fault.
 use Rattle.std.proofs.Common.{◌≡◌, ℕ, zero, suc, ◌+◌, ◌<◌, ◌≤◌, List, [], ◌∷◌, length, get_or, take, map, Contains, None, Result, Ok, Err, refl, sym, ap, ap₂, subst, ◌∙◌, arith}
-use Rattle.std.specs.Option.{option_or, option_map}
+use Rattle.std.specs.Option.{option_map}
 use Rattle.std.proofs.lemmas.List.{length-map, get_or_default}
 use Rattle.std.proofs.lemmas.List.Elements.{Contains-get_or}
 use Rattle.cd_base.specs.declared.hash.Hash256.{Hash256}
@@ -23,9 +23,7 @@ use Rattle.cd_boc_read.specs.declared.cell_text.CellText.{CellText}
 use Rattle.cd_boc_read.specs.Grammar.{IsBagOf, IsStated, Spells}
 use Rattle.cd_boc_read.specs.Views.{text_view, text_views}
 use Rattle.cd_boc_read.specs.Reading.{bag_at}
-use Rattle.cd_boc_read.specs.Places.{stated_cells}
-use Rattle.cd_boc_read.proofs.PlaceLaws.{bag_counted}
-use Rattle.cd_boc_read.specs.CellFaults.{cells_fault, fault_of_texts}
+use Rattle.cd_boc_read.specs.CellFaults.{faces_of_texts, cells_fault, fault_of_texts}
 use Rattle.cd_cell.specs.Clashes.{clash_of}
 use Rattle.cd_boc_read.specs.BagFaults.{AreTexts, fault_in, bag_fault}
 use Rattle.cd_boc_read.proofs.CellLoop.{length-entries, length-text_views}
@@ -177,75 +175,53 @@ module _ (H : List ℕ → Hash256) where
 
   -- ---- the bag of a reader
 
-  module _ (bytes : List ℕ) (fit : IsBytes bytes) (f : Frame) (cell_texts : List CellText) (read : bag_at bytes ≡ bag_read (f, text_views cell_texts)) where
+  module _ (f : Frame) (cell_texts : List CellText) (bag : IsBagOf f (text_views cell_texts)) where
     abbrev read_texts : List Text
     read_texts = text_views cell_texts
 
     abbrev read_faces : List FaceView
-    read_faces = faces_from H 0 (entries_of_texts read_texts)
-
-    found : IsBagOf f read_texts × (bytes ≡ frame_text f)
-    found = bag_at-found bytes f read_texts fit read
-
-    count-read : length read_texts ≡ length cell_texts
-    count-read = length-text_views cell_texts
+    read_faces = faces_of_texts H read_texts
 
     count-faces : length read_faces ≡ length cell_texts
-    count-faces = length-faces_from H 0 (entries_of_texts read_texts) ∙ length-entries read_texts ∙ count-read
+    count-faces = length-faces_from H 0 (entries_of_texts read_texts) ∙ length-entries read_texts ∙ length-text_views cell_texts
 
     pub some_texts : 0 < length cell_texts
-    some_texts = omega (arith, count-read, found.0.some_roots, found.0.few_roots)
+    some_texts = omega (arith, length-text_views cell_texts, bag.some_roots, bag.few_roots)
 
     pub few_texts : length cell_texts ≤ 1048576
-    few_texts = omega (arith, count-read, found.0.few_cells)
+    few_texts = omega (arith, length-text_views cell_texts, bag.few_cells)
 
-    pub are_texts : AreTexts read_texts
-    are_texts = found.0.texts
+    module _ (sound : fault_of_texts H read_texts ≡ None) (cells : List FaceView) (filled : cells ≡ read_faces) (refs : List (List ℕ)) (numbers : refs ≡ map (λ (t : CellText). t.refs) cell_texts) where
+      pub count-cells : length cells ≡ length read_texts
+      count-cells = ap length filled ∙ count-faces ∙ sym (length-text_views cell_texts)
 
-    pub some_roots : 1 ≤ length f.roots
-    some_roots = found.0.some_roots
+      named-read : entries_of read_faces refs ≡ entries_of_texts read_texts
+      named-read = ap (entries_of read_faces) numbers ∙ entries-read 0 cell_texts
 
-    module _ (cells : List FaceView) (filled : cells ≡ read_faces) where
-      pub count-cells : length cells ≡ length cell_texts
-      count-cells = ap length filled ∙ count-faces
+      counted-read : length refs ≡ length read_faces
+      counted-read = ap length numbers ∙ length-map cell_texts (λ (t : CellText). t.refs) ∙ sym count-faces
 
-      -- there are as many cells as the header states
-      pub count-stated : length cells ≡ stated_cells bytes
-      count-stated = count-cells ∙ sym count-read ∙ sym found.0.counted ∙ bag_counted bytes f read_texts read
+      pub made : IsBag H cells refs f.roots
+      made =
+          let both = option_or-none (cells_fault H 0 read_texts read_faces) (option_map Clash (clash_of H read_faces)) sound in
+          let clear = option_map-none Clash (clash_of H read_faces) both.1 in
+          subst (λ (fs : List FaceView). IsBag H fs refs f.roots) (sym filled) (bag_made read_texts bag.texts both.0 clear refs named-read counted-read f.roots bag.rooted)
 
-      -- where no cell has a fault, the fault is their clash
-      pub clash-told : cells_fault H 0 read_texts read_faces ≡ None → bag_fault H bytes ≡ option_map Clash (clash_of H cells)
-      clash-told none =
-          ap (fault_in H) read
-          ∙ ap (λ o. option_or o (option_map Clash (clash_of H read_faces))) none
-          ∙ ap (λ fs. option_map Clash (clash_of H fs)) (sym filled)
+      pub trees-read : root_trees cells refs f.roots ≡ map (unfolding_of (entries_of_texts read_texts)) f.roots
+      trees-read = ap (λ (fs : List FaceView). root_trees fs refs f.roots) filled ∙ ap (λ (x : List Entry). map (unfolding_of x) f.roots) named-read
 
-      module _ (none : cells_fault H 0 read_texts read_faces ≡ None) (clear : clash_of H cells ≡ None) (refs : List (List ℕ)) (numbers : refs ≡ map (λ (t : CellText). t.refs) cell_texts) where
-        clear-read : clash_of H read_faces ≡ None
-        clear-read = ap (clash_of H) (sym filled) ∙ clear
-
-        named-read : entries_of read_faces refs ≡ entries_of_texts read_texts
-        named-read = ap (entries_of read_faces) numbers ∙ entries-read 0 cell_texts
-
-        counted-read : length refs ≡ length read_faces
-        counted-read = ap length numbers ∙ length-map cell_texts (λ (t : CellText). t.refs) ∙ sym count-faces
-
-        pub made : IsBag H cells refs f.roots
-        made = subst (λ (fs : List FaceView). IsBag H fs refs f.roots) (sym filled) (bag_made read_texts are_texts none clear-read refs named-read counted-read f.roots found.0.rooted)
-
-        pub spelt : Spells H bytes (root_trees cells refs f.roots)
-        spelt = subst (λ (fs : List FaceView). Spells H bytes (root_trees fs refs f.roots)) (sym filled) (spelt_from bytes f read_texts found.0 found.1 none clear-read refs named-read counted-read)
+  -- what was read of bytes spells the trees of the roots, where it has no fault
+  pub spelt-read : (bytes : List ℕ) → IsBytes bytes → (f : Frame) (ts : List Text) → bag_at bytes ≡ bag_read (f, ts) → fault_of_texts H ts ≡ None → Spells H bytes (map (unfolding_of (entries_of_texts ts)) f.roots)
+  spelt-read bytes fit f ts read none =
+      let both = option_or-none (cells_fault H 0 ts (faces_of_texts H ts)) (option_map Clash (clash_of H (faces_of_texts H ts))) none in
+      let clear = option_map-none Clash (clash_of H (faces_of_texts H ts)) both.1 in
+      let found = bag_at-found bytes f ts fit read in
+      spelt_alone bytes f ts found.0 found.1 both.0 clear
 
   -- bytes without a fault spell some trees
   spelt_by : (bytes : List ℕ) → IsBytes bytes → (r : Result (Frame × List Text) BagFault) → bag_at bytes ≡ r → fault_in H r ≡ None → (trees : List Tree) × Spells H bytes trees
   spelt_by bytes fit (Err e) read none = absurd cc
-  spelt_by bytes fit (Ok x) read none =
-      let ts = x.1 in
-      let faces : List FaceView = faces_from H 0 (entries_of_texts ts) in
-      let both = option_or-none (cells_fault H 0 ts faces) (option_map Clash (clash_of H faces)) none in
-      let clear = option_map-none Clash (clash_of H faces) both.1 in
-      let found = bag_at-found bytes x.0 ts fit read in
-      (map (unfolding_of (entries_of_texts ts)) x.0.roots, spelt_alone bytes x.0 ts found.0 found.1 both.0 clear)
+  spelt_by bytes fit (Ok x) read none = (map (unfolding_of (entries_of_texts x.1)) x.0.roots, spelt-read bytes fit x.0 x.1 read none)
 
   pub spelt_where_no_fault : (bytes : List ℕ) → IsBytes bytes → bag_fault H bytes ≡ None → (trees : List Tree) × Spells H bytes trees
   spelt_where_no_fault bytes fit none = spelt_by bytes fit (bag_at bytes) refl none

@@ -6,7 +6,8 @@ use Rattle.cd_boc_write.specs.Frames.{Frame, numbers_text, shape_text, counts_te
 use Rattle.cd_boc_write.specs.CellTexts.{Text, cell_text, texts_text, ends_from}
 use Rattle.cd_boc_read.specs.Grammar.{IsText, IsBagOf, end_of_entry}
 use Rattle.cd_boc_read.specs.Reading.{numbers_in, FrameParts, frame_at, texts_at, frame_of, bag_at}
-use Rattle.cd_boc_read.proofs.FieldLaws.{ok_is, by_ok, numbers_of, numbers_in-text, length-numbers_text}
+use Rattle.cd_boc_read.proofs.FieldLaws.{numbers_of, numbers_in-text, length-numbers_text}
+use Rattle.cd_base.proofs.ReadingLaws.{ok_is, by_ok}
 use Rattle.cd_boc_read.proofs.HeaderLaws.{AreBelow}
 use Rattle.cd_boc_read.proofs.PartLaws.{crc_text, AreFrame, parts_body, frame_takes, frame_again}
 use Rattle.cd_boc_read.proofs.TextListLaws.{AreTexts, AreReadTexts, HoldEnds, texts_take, texts_again, ends_none, ends_some}

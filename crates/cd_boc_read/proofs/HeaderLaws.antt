@@ -8,10 +8,12 @@ use Rattle.cd_boc_read.specs.declared.bag_fault.BagFault.{BagFault}
 use Rattle.cd_boc_read.specs.declared.bag_fault.BagFault.TheVariants.{Magic, Flags, Sizes, Roots, Absent, Limit, RootIndex}
 use Rattle.cd_boc_read.specs.declared.counts.Counts.{Counts}
 use Rattle.cd_boc_read.specs.Grammar.{IsShape}
-use Rattle.cd_boc_read.specs.Reading.{number_at, byte_at, numbers_at, shape_of, are_flags, are_sizes, shape_at, counts_at, are_cells, roots_at}
+use Rattle.cd_boc_read.specs.Reading.{numbers_at, shape_of, are_flags, are_sizes, shape_at, counts_at, are_cells, roots_at}
+use Rattle.cd_base.specs.Reading.{number_at, byte_at}
 use Rattle.cd_boc_read.proofs.NumberFields.{both, shape_is}
 use Rattle.cd_boc_read.proofs.FlagBits.{flag_value, bit, bit-lt, bit-back, bit-times}
-use Rattle.cd_boc_read.proofs.FieldLaws.{ok_is, by_ok, by_test, Takes, Takes-then, Takes-same, byte_takes, byte_again, number_takes, number_again, numbers_take, numbers_again}
+use Rattle.cd_boc_read.proofs.FieldLaws.{numbers_take, numbers_again}
+use Rattle.cd_base.proofs.ReadingLaws.{ok_is, by_ok, by_test, Takes, Takes-then, Takes-same, byte_takes, byte_again, Takes-byte, big-one, number_takes, number_again}
 
 -- ---- the flag byte
 
@@ -87,15 +89,16 @@ shape_takes cut bytes x fits e =
     by_test (are_flags flags.0) (Flags flags.0) _ x k3 (λ known k4.
     by_test (are_sizes (flags.0 % 8) off_bytes.0) (Sizes (flags.0 % 8) off_bytes.0) _ x k4 (λ sized k5.
     let t0 = number_takes cut 4 bytes magic fits e0 in
-    let t1 = byte_takes cut magic.1 flags t0.0.rest_fits e2 in
-    let t2 = byte_takes cut flags.1 off_bytes t1.0.rest_fits e3 in
+    let b1 = byte_takes cut magic.1 flags t0.0.rest_fits e2 in
+    let t1 = Takes-byte magic.1 flags.0 flags.1 b1 in
+    let t2 = Takes-byte flags.1 off_bytes.0 off_bytes.1 (byte_takes cut flags.1 off_bytes b1.rest_fits e3) in
     let first : Takes bytes (big 4 0xb5ee9c72) magic.1 = Takes-same bytes (big 4 magic.0) (big 4 0xb5ee9c72) magic.1 (ap (big 4) (eqb-true magic.0 0xb5ee9c72 is_magic)) t0.0 in
     let second : Takes magic.1 (big 1 (flags_of (shape_of flags.0 off_bytes.0))) flags.1 =
-    Takes-same magic.1 (big 1 flags.0) (big 1 (flags_of (shape_of flags.0 off_bytes.0))) flags.1 (ap (big 1) (sym (flags_of-shape_of flags.0 off_bytes.0 t1.1 known))) t1.0
+    Takes-same magic.1 (big 1 flags.0) (big 1 (flags_of (shape_of flags.0 off_bytes.0))) flags.1 (ap (big 1) (sym (flags_of-shape_of flags.0 off_bytes.0 b1.small known))) t1
     in
     let two = Takes-then bytes (big 4 0xb5ee9c72) magic.1 (big 1 (flags_of (shape_of flags.0 off_bytes.0))) flags.1 first second in
     let all : Takes bytes (shape_text (shape_of flags.0 off_bytes.0)) off_bytes.1 =
-    Takes-then bytes (big 4 0xb5ee9c72 ++ big 1 (flags_of (shape_of flags.0 off_bytes.0))) flags.1 (big 1 off_bytes.0) off_bytes.1 two t2.0
+    Takes-then bytes (big 4 0xb5ee9c72 ++ big 1 (flags_of (shape_of flags.0 off_bytes.0))) flags.1 (big 1 off_bytes.0) off_bytes.1 two t2
     in
     subst (λ (y : Shape × List ℕ). Takes bytes (shape_text y.0) y.1 × IsShape y.0) (ok_is (shape_of flags.0 off_bytes.0, off_bytes.1) x k5)
     (all, shape_is flags.0 off_bytes.0 known sized)))))))
@@ -112,8 +115,10 @@ unfolding shape_at
 shape_read cut flags off_bytes rest fl fo known sized =
     rw (
       number_again cut 4 0xb5ee9c72 (big 1 flags ++ (big 1 off_bytes ++ rest)) magic_fits,
-      byte_again cut flags (big 1 off_bytes ++ rest) fl,
-      byte_again cut off_bytes rest fo,
+      big-one flags fl,
+      byte_again cut flags (big 1 off_bytes ++ rest),
+      big-one off_bytes fo,
+      byte_again cut off_bytes rest,
       known,
       sized,
     ) refl

@@ -7,6 +7,9 @@ pub mod FlagBits
 pub mod FieldLaws
 pub mod HeaderLaws
 pub mod PlaceLaws
+pub mod FrameFaults
+pub mod TextFaults
+pub mod RowLaws
 pub mod PartLaws
 pub mod TextLaws
 pub mod TextListLaws

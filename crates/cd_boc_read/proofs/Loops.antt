@@ -8,7 +8,8 @@ use Rattle.cd_boc_write.specs.declared.shape.Shape.{Shape}
 use Rattle.cd_boc_write.specs.CellTexts.{Text}
 use Rattle.cd_boc_read.specs.declared.bag_fault.BagFault.{BagFault}
 use Rattle.cd_boc_read.specs.declared.bag_fault.BagFault.TheVariants.{RootIndex, Length, Index}
-use Rattle.cd_boc_read.specs.Reading.{◌>>=◌, Fails, numbers_in, are_cells, text_at, texts_at, is_end}
+use Rattle.cd_boc_read.specs.Reading.{numbers_in, are_cells, text_at, texts_at, is_end}
+use Rattle.cd_base.specs.Reading.{◌>>=◌}
 
 -- ---- numbers
 
@@ -75,11 +76,11 @@ module _ (shape : Shape) (cells total : ℕ) where
         in
         sym one ∙ so_far
 
-    pub texts_fail : number < cells → (e : BagFault) → Fails e (next_at number bytes) → Fails e all
+    pub texts_fail : number < cells → (e : BagFault) → next_at number bytes ≡ Err e → all ≡ Err e
     unfolding texts_at
-    texts_fail lt e failed told =
+    texts_fail lt e failed =
         let k : cells - number ≡ suc (cells - (number + 1)) = omega arith in
-        let one : with_front front (left_at number index bytes) ≡ Err e = rw (k, failed told) refl in
+        let one : with_front front (left_at number index bytes) ≡ Err e = rw (k, failed) refl in
         sym so_far ∙ one
 
     pub texts_index : number < cells → (t : Text) (after : List ℕ) → next_at number bytes ≡ Ok (t, after) → is_end shape index (total - length after) ≡ false → all ≡ Err (Index number)

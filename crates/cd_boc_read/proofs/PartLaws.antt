@@ -11,8 +11,9 @@ use Rattle.cd_boc_read.specs.declared.bag_fault.BagFault.{BagFault}
 use Rattle.cd_boc_read.specs.declared.bag_fault.BagFault.TheVariants.{Cut, Extra, Crc}
 use Rattle.cd_boc_read.specs.declared.counts.Counts.{Counts}
 use Rattle.cd_boc_read.specs.Grammar.{IsShape}
-use Rattle.cd_boc_read.specs.Reading.{part_at, shape_at, counts_at, roots_at, index_len, end_at, FrameParts, frame_at}
-use Rattle.cd_boc_read.proofs.FieldLaws.{ok_is, by_ok, by_test, test_holds, Takes-then, Takes-same, part_takes, part_again}
+use Rattle.cd_boc_read.specs.Reading.{shape_at, counts_at, roots_at, index_len, end_at, FrameParts, frame_at}
+use Rattle.cd_base.specs.Reading.{part_at}
+use Rattle.cd_base.proofs.ReadingLaws.{ok_is, by_ok, by_test, test_holds, Takes-then, Takes-same, part_takes, part_again}
 use Rattle.cd_boc_read.proofs.HeaderLaws.{AreCounts, AreBelow, shape_takes, shape_again, counts_take, counts_again, roots_take, roots_again}
 
 -- ---- the checksum

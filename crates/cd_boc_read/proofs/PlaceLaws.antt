@@ -9,9 +9,10 @@ use Rattle.cd_boc_write.specs.CellTexts.{Text}
 use Rattle.cd_boc_read.specs.declared.bag_fault.BagFault.{BagFault}
 use Rattle.cd_boc_read.specs.declared.bag_fault.BagFault.TheVariants.{Magic, Flags, Sizes, Cut, Roots, Absent, Limit}
 use Rattle.cd_boc_read.specs.declared.counts.Counts.{Counts}
-use Rattle.cd_boc_read.specs.Reading.{part_at, byte_at, number_at, shape_of, shape_at, are_flags, are_sizes, counts_at, frame_at, roots_at, index_len, end_at, FrameParts, texts_at, frame_of, bag_at}
+use Rattle.cd_boc_read.specs.Reading.{shape_of, shape_at, are_flags, are_sizes, counts_at, frame_at, roots_at, index_len, end_at, FrameParts, texts_at, frame_of, bag_at}
+use Rattle.cd_base.specs.Reading.{part_at, byte_at, number_at}
 use Rattle.cd_boc_read.specs.Places.{number_in, stated_shape, stated_cells}
-use Rattle.cd_boc_read.proofs.FieldLaws.{ok_is, by_ok, by_test, passed}
+use Rattle.cd_base.proofs.ReadingLaws.{ok_is, by_ok, by_test, no_fault}
 
 -- ---- places
 
@@ -30,7 +31,7 @@ module _ (fault : BagFault) (bytes : List ℕ) (place : ℕ) (rest : List ℕ) (
   pub part_found : (len : ℕ) (x : List ℕ × List ℕ) → part_at fault len rest ≡ Ok x → (x.0 ≡ take len (drop place bytes)) × Stands bytes (place + len) x.1
   unfolding part_at
   part_found len x e =
-      let g = passed (ltb (length rest) len) fault (take len rest, drop len rest) x e in
+      let g = no_fault (ltb (length rest) len) fault (take len rest, drop len rest) x e in
       let long : len ≤ length rest = ltb-false _ _ g.0 in
       rw (← g.1) (ap (take len) s.is, record { is = ap (drop len) s.is ∙ drop-drop len place bytes; within = omega (arith, length-standing bytes place rest s) })
 
@@ -50,7 +51,7 @@ byte_found fault bytes place (b ∷ rest) s x e =
       record { is = ap (drop 1) s.is ∙ drop-drop 1 place bytes; within = omega (arith, length-standing bytes place (b ∷ rest) s) },
     )
 
-Stands-at : (bytes : List ℕ) (p q : ℕ) (rest : List ℕ) → p ≡ q → Stands bytes p rest → Stands bytes q rest
+pub Stands-at : (bytes : List ℕ) (p q : ℕ) (rest : List ℕ) → p ≡ q → Stands bytes p rest → Stands bytes q rest
 Stands-at bytes p q rest same s = subst (λ (n : ℕ). Stands bytes n rest) same s
 
 -- ---- the header

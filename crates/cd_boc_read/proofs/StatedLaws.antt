@@ -122,7 +122,7 @@ module _ (H : List ℕ → Hash256) where
   cells-sound i (x ∷ ts) (y ∷ fs) none (suc k) t f in-ts in-fs =
       cells-sound (i + 1) ts fs (option_or-none (cells_fault H (i + 1) ts fs) (cell_fault H i x y) (sym (cells_fault-cons H i x ts y fs) ∙ none)).0 k t f (omega arith) (omega arith)
 
-  cells_fault-no_faces : (i : ℕ) (ts : List Text) → cells_fault H i ts [] ≡ None
+  pub cells_fault-no_faces : (i : ℕ) (ts : List Text) → cells_fault H i ts [] ≡ None
   unfolding cells_fault
   cells_fault-no_faces i [] = refl
   cells_fault-no_faces i (t ∷ ts) = refl

@@ -15,10 +15,12 @@ use Rattle.cd_boc_write.specs.CellTexts.{Text, first_descriptor, cell_text}
 use Rattle.cd_boc_read.specs.declared.bag_fault.BagFault.{BagFault}
 use Rattle.cd_boc_read.specs.declared.bag_fault.BagFault.TheVariants.{Descriptor, Completion, Order}
 use Rattle.cd_boc_read.specs.Grammar.{IsText, stored_len}
-use Rattle.cd_boc_read.specs.Reading.{part_at, numbers_at, stored_bytes, is_completed, is_later, text_of, parts_at, text_at}
+use Rattle.cd_boc_read.specs.Reading.{numbers_at, stored_bytes, is_completed, is_later, text_of, parts_at, text_at}
+use Rattle.cd_base.specs.Reading.{part_at}
 use Rattle.cd_boc_read.proofs.NumberFields.{both}
 use Rattle.cd_boc_read.proofs.FlagBits.{flag_value, bit, bit-lt, bit-back, bit-times}
-use Rattle.cd_boc_read.proofs.FieldLaws.{ok_is, by_ok, by_test, Takes, Takes-then, Takes-same, part_takes, part_again, numbers_take, numbers_again}
+use Rattle.cd_boc_read.proofs.FieldLaws.{numbers_take, numbers_again}
+use Rattle.cd_base.proofs.ReadingLaws.{ok_is, by_ok, by_test, Takes, Takes-then, Takes-same, part_takes, part_again}
 use Rattle.cd_boc_read.proofs.HeaderLaws.{AreBelow}
 
 -- ---- the data

@@ -11,7 +11,7 @@ use Rattle.cd_boc_write.specs.CellTexts.{Text, cell_text, texts_text, ends_from}
 use Rattle.cd_boc_read.specs.declared.bag_fault.BagFault.TheVariants.{Length, Index}
 use Rattle.cd_boc_read.specs.Grammar.{IsText, end_of_entry}
 use Rattle.cd_boc_read.specs.Reading.{numbers_in, text_at, is_end, texts_at}
-use Rattle.cd_boc_read.proofs.FieldLaws.{ok_is, by_ok, by_test}
+use Rattle.cd_base.proofs.ReadingLaws.{ok_is, by_ok, by_test}
 use Rattle.cd_boc_read.proofs.HeaderLaws.{AreBelow}
 use Rattle.cd_boc_read.proofs.TextLaws.{text_takes, text_again}
 

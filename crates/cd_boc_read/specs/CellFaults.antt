@@ -1,4 +1,4 @@
--- What is wrong with the cells of a bag, once their texts are read: from the last cell downwards the first fault of
+-- Trusted: what is wrong with the cells of a bag, once their texts are read: from the last cell downwards the first fault of
 -- each, and then the least hash that two different cells have.
 use Rattle.std.specs.Prelude.{ℕ, ◌+◌, Bool, true, not, ◌&&◌, ◌==◌, List, [], ◌∷◌, Option, Some, None, is_some, if◌then◌else◌}
 use Rattle.std.specs.Option.{option_or, option_map}
@@ -9,7 +9,7 @@ use Rattle.cd_cell.specs.FaceView.{FaceView}
 use Rattle.cd_cell.specs.Levels.{mask_of_face, info_of_face}
 use Rattle.cd_cell.specs.CellFaults.{first_byte, face_fault}
 use Rattle.cd_cell.specs.StoredText.{stored_text}
-use Rattle.cd_cell.specs.Unfolding.{faces_from}
+use Rattle.cd_cell.specs.Unfolding.{infos_from, faces_from}
 use Rattle.cd_cell.specs.Clashes.{clash_of}
 use Rattle.cd_boc_write.specs.CellTexts.{Text, entries_of_texts}
 use Rattle.cd_boc_read.specs.declared.bag_fault.BagFault.{BagFault}
@@ -43,8 +43,14 @@ module _ (H : List ℕ → Hash256) where
   cells_fault number (t ∷ ts) [] = None
   cells_fault number (t ∷ ts) (f ∷ fs) = option_or (cells_fault (number + 1) ts fs) (cell_fault number t f)
 
+  -- the faces of the cells that have these texts, and what they show
+  abbrev pub faces_of_texts : List Text → List FaceView
+  faces_of_texts ts = faces_from H 0 (entries_of_texts ts)
+
+  abbrev pub infos_of_texts : List Text → List ChildInfo
+  infos_of_texts ts = infos_from H 0 (entries_of_texts ts)
+
   -- the first fault of all the cells
   abbrev pub fault_of_texts : List Text → Option BagFault
   fault_of_texts ts =
-      let faces = faces_from H 0 (entries_of_texts ts) in
-      option_or (cells_fault 0 ts faces) (option_map Clash (clash_of H faces))
+      let faces = faces_of_texts ts in option_or (cells_fault 0 ts faces) (option_map Clash (clash_of H faces))

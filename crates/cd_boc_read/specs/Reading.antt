@@ -1,49 +1,17 @@
--- Reading a bag from left to right, with the first fault that is met: the frame, and then the texts of the cells.
-use Rattle.std.specs.Prelude.{◌≡◌, ◌≢◌, ℕ, zero, suc, ◌+◌, ◌-◌, ◌*◌, ◌/◌, ◌%◌, Bool, true, not, ◌&&◌, ◌||◌, ◌==◌, nat_lt, nat_le, List, [], ◌∷◌, length, take, drop, slice_index, Some, None, Result, Ok, Err, if◌then◌else◌}
+-- Trusted: reading a bag from left to right, with the first fault that is met: the frame, and then the texts of the cells.
+use Rattle.std.specs.Prelude.{ℕ, zero, suc, ◌+◌, ◌-◌, ◌*◌, ◌/◌, ◌%◌, Bool, true, not, ◌&&◌, ◌||◌, ◌==◌, nat_lt, nat_le, List, [], ◌∷◌, length, take, drop, slice_index, Some, None, Result, Ok, Err, if◌then◌else◌}
 use Rattle.std.specs.List.{list_all}
 use Rattle.cd_base.specs.Numbers.{from_big, from_little}
+use Rattle.cd_base.specs.Reading.{◌>>=◌, require, part_at, byte_at, number_at}
 use Rattle.cd_base.specs.Checksum.{crc32c}
 use Rattle.cd_cell.specs.BitText.{data_bits}
 use Rattle.cd_boc_write.specs.declared.shape.Shape.{Shape}
 use Rattle.cd_boc_write.specs.Frames.{Frame}
 use Rattle.cd_boc_write.specs.CellTexts.{Text}
 use Rattle.cd_boc_read.specs.declared.bag_fault.BagFault.{BagFault}
-use Rattle.cd_boc_read.specs.declared.bag_fault.BagFault.TheVariants.{Magic, Flags, Sizes, Cut, Roots, Absent, Limit, RootIndex, Extra, Crc, Descriptor, Length, Completion, Order, Index, Memory}
+use Rattle.cd_boc_read.specs.declared.bag_fault.BagFault.TheVariants.{Magic, Flags, Sizes, Cut, Roots, Absent, Limit, RootIndex, Extra, Crc, Descriptor, Length, Completion, Order, Index}
 use Rattle.cd_boc_read.specs.declared.counts.Counts.{Counts}
 use Rattle.cd_boc_read.specs.Grammar.{end_of_entry, stored_len}
-
-infixl 10 ◌>>=◌
-abbrev pub ◌>>=◌ : {A B : Type 0} → Result A BagFault → (A → Result B BagFault) → Result B BagFault
-(Ok x) >>= f = f x
-(Err e) >>= f = Err e
-
--- A call that answered e had that fault to answer, or memory ran out.
-abbrev pub Fails : {Y : Type 0} → BagFault → Result Y BagFault → Type 0
-Fails e read = e ≢ Memory → read ≡ Err e
-
--- What a call answered, seen by view, is what reading gives, unless memory ran out.
-abbrev pub Gives : {X Y : Type 0} → (X → Y) → Result X BagFault → Result Y BagFault → Type 0
-Gives view (Ok x) read = read ≡ Ok (view x)
-Gives view (Err e) read = Fails e read
-
--- the fault, where the test fails
-abbrev pub require : Bool → BagFault → Result (Unit {0}) BagFault
-require holds fault = if holds then Ok tt else Err fault
-
--- so many bytes
-unfoldable pub part_at : BagFault → ℕ → List ℕ → Result (List ℕ × List ℕ) BagFault
-part_at fault len bytes = if nat_lt (length bytes) len then Err fault else Ok (take len bytes, drop len bytes)
-
--- one byte
-unfoldable pub byte_at : BagFault → List ℕ → Result (ℕ × List ℕ) BagFault
-byte_at fault [] = Err fault
-byte_at fault (byte ∷ rest) = Ok (byte, rest)
-
--- a number in so many bytes, the highest byte first
-unfoldable pub number_at : BagFault → ℕ → List ℕ → Result (ℕ × List ℕ) BagFault
-number_at fault len bytes = do
-  part ← part_at fault len bytes
-  Ok (from_big part.0, part.1)
 
 -- so many numbers, each of `len` bytes
 unfoldable pub numbers_in : ℕ → ℕ → List ℕ → List ℕ

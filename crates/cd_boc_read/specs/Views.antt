@@ -1,8 +1,10 @@
--- What the code's structs are, without where they lie in memory.
+-- Inner: what the code's structs are, without where they lie in memory.
 use Rattle.std.specs.Prelude.{List, map, take}
 use Rattle.std.specs.Option.{option_map}
+use Rattle.cd_cell.specs.Tree.{Tree}
+use Rattle.cd_cell.specs.Unfolding.{unfolding_of}
 use Rattle.cd_boc_write.specs.Frames.{Frame}
-use Rattle.cd_boc_write.specs.CellTexts.{Text}
+use Rattle.cd_boc_write.specs.CellTexts.{Text, entries_of_texts}
 use Rattle.cd_boc_read.specs.declared.cell_text.CellText.{CellText}
 use Rattle.cd_boc_read.specs.declared.frame_text.FrameText.{FrameText}
 use Rattle.cd_boc_read.specs.declared.bag_text.BagText.{BagText}
@@ -23,3 +25,7 @@ parts_view f = record { shape = f.shape; cells = f.cells; roots = f.roots.items;
 
 abbrev pub bag_view : BagText → Frame × List Text
 bag_view b = (frame_of (parts_view b.frame), text_views b.texts.items)
+
+-- the trees of the roots, as the texts of the cells unfold
+abbrev pub roots_unfolded : Frame × List Text → List Tree
+roots_unfolded bag = map (unfolding_of (entries_of_texts bag.1)) bag.0.roots

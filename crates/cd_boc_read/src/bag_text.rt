@@ -1,5 +1,6 @@
 ghost use Rattle.cd_boc_read.specs.Reading as spec;
-ghost use Rattle.cd_boc_read.specs.Reading.{Gives};
+ghost use Rattle.cd_base.specs.Reading.{GivesUnless};
+ghost use Rattle.cd_boc_read.specs.declared.bag_fault.BagFault.TheVariants.{Memory};
 ghost use Rattle.cd_boc_read.specs.Views.{bag_view};
 
 use crate::bag_fault::BagFault;
@@ -19,7 +20,7 @@ pub(crate) struct BagText<'a> {
 /// The frame and the texts of all cells.
 #[tactic(auto, unfolding(crate::specs::Reading::bag_at))]
 pub(crate) fn bag_at(alloc: Global, bytes: &[u8]) -> Result<BagText<'_>, BagFault>
-    ensures { Gives bag_view result (spec.bag_at bytes.now) }
+    ensures { GivesUnless Memory bag_view result (spec.bag_at bytes.now) }
 {
     let frame = frame_at(alloc, bytes)?;
     let texts = texts_at(alloc, &frame)?;

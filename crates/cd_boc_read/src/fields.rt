@@ -1,47 +1,12 @@
-ghost use Rattle.std.specs.Prelude.{◌≡◌, ◌*◌, ◌^◌, ◌<◌, ◌≤◌, length, take, drop, IfOk, Ok};
+ghost use Rattle.std.specs.Prelude.{◌≡◌, ◌≤◌, length, take, drop, IfOk};
 ghost use Rattle.cd_base.specs.Numbers.{from_big};
+ghost use Rattle.cd_base.specs.Reading as base;
+ghost use Rattle.cd_base.specs.Reading.{Gives};
 ghost use Rattle.cd_boc_read.specs.Reading as spec;
-ghost use Rattle.cd_boc_read.specs.Reading.{Gives};
 
 use crate::bag_fault::BagFault;
-use cd_base::from_be;
-use std::alloc::Global;
-
-/// So many bytes, and those behind them.
-#[tactic(auto, unfolding(crate::specs::Reading::part_at))]
-pub(crate) fn part_at(fault: BagFault, len: usize, bytes: &[u8]) -> Result<(&[u8], &[u8]), BagFault>
-    ensures exact { Gives (λ x. (x.0.now, x.1.now)) result (spec.part_at fault len bytes.now) }
-    ensures len { IfOk result (λ x. length x.0.now ≡ len) }
-    ensures rest { IfOk result (λ x. length x.1.now ≤ length bytes.now) }
-{
-    if bytes.len() < len {
-        return Err(fault);
-    }
-    Ok((&bytes[..len], &bytes[len..]))
-}
-
-/// One byte, and those behind it.
-#[tactic(auto, unfolding(crate::specs::Reading::byte_at))]
-pub(crate) fn byte_at(fault: BagFault, bytes: &[u8]) -> Result<(u8, &[u8]), BagFault>
-    ensures exact { Gives (λ x. (x.0, x.1.now)) result (spec.byte_at fault bytes.now) }
-    ensures rest { IfOk result (λ x. length x.1.now ≤ length bytes.now) }
-{
-    match bytes {
-        [] => Err(fault),
-        [byte, rest @ ..] => Ok((*byte, rest)),
-    }
-}
-
-/// A number of so many bytes, and the bytes behind it.
-#[tactic(auto, unfolding(crate::specs::Reading::number_at))]
-pub(crate) fn offset_at(fault: BagFault, len: u8, bytes: &[u8]) -> Result<(u64, &[u8]), BagFault>
-    requires { len ≤ 8 }
-    ensures exact { Gives (λ x. (x.0, x.1.now)) result (spec.number_at fault len bytes.now) }
-    ensures rest { IfOk result (λ x. length x.1.now ≤ length bytes.now) }
-{
-    let (part, rest) = part_at(fault, usize::from(len), bytes)?;
-    Ok((from_be(part), rest))
-}
+use cd_base::{from_be, part_at};
+use std::alloc::{AllocError, Global};
 
 /// The number whose at most four bytes these are, the highest first.
 pub(crate) fn small(bytes: &[u8]) -> u32
@@ -52,10 +17,10 @@ pub(crate) fn small(bytes: &[u8]) -> u32
 }
 
 /// A number of so many bytes, at most four, and the bytes behind it.
-#[tactic(auto, unfolding(crate::specs::Reading::number_at))]
-pub(crate) fn number_at(fault: BagFault, len: u8, bytes: &[u8]) -> Result<(u32, &[u8]), BagFault>
+#[tactic(auto, unfolding(cd_base::specs::Reading::number_at))]
+pub(crate) fn small_at(fault: BagFault, len: u8, bytes: &[u8]) -> Result<(u32, &[u8]), BagFault>
     requires { len ≤ 4 }
-    ensures exact { Gives (λ x. (x.0, x.1.now)) result (spec.number_at fault len bytes.now) }
+    ensures exact { Gives (λ x. (x.0, x.1.now)) result (base.number_at fault len bytes.now) }
     ensures rest { IfOk result (λ x. length x.1.now ≤ length bytes.now) }
 {
     let (part, rest) = part_at(fault, usize::from(len), bytes)?;
@@ -80,9 +45,9 @@ pub(crate) fn numbers_in(
     len: u8,
     count: u32,
     bytes: &[u8],
-) -> Result<Vec<u32>, BagFault>
+) -> Result<Vec<u32>, AllocError>
     requires { len ≤ 4 }
-    ensures { Gives (λ numbers. numbers.items) result (Ok (spec.numbers_in len count bytes.now)) }
+    ensures { IfOk result (λ numbers. numbers.items ≡ spec.numbers_in len count bytes.now) }
 {
     let mut numbers = Vec::with_capacity(alloc, count as usize)?;
     let mut rest = bytes;

@@ -1,14 +1,15 @@
 ghost use Rattle.std.specs.Prelude.{◌≡◌, ◌+◌, ◌^◌, ◌<◌, ◌≤◌, ◌==◌, length, take, drop, IfOk};
 ghost use Rattle.cd_boc_read.specs.Grammar.{IsShape};
 ghost use Rattle.cd_boc_read.specs.Reading as spec;
-ghost use Rattle.cd_boc_read.specs.Reading.{Gives};
+ghost use Rattle.cd_base.specs.Reading.{Gives, GivesUnless};
+ghost use Rattle.cd_boc_read.specs.declared.bag_fault.BagFault.TheVariants.{Memory};
 ghost use Rattle.cd_boc_read.specs.Views.{parts_view};
 
 use crate::bag_fault::BagFault;
 use crate::counts::Counts;
-use crate::fields::{byte_at, number_at, numbers_in, offset_at, part_at};
+use crate::fields::{numbers_in, small_at};
 use crate::frame_text::FrameText;
-use cd_base::{crc32c, from_le};
+use cd_base::{byte_at, crc32c, from_le, number_at, part_at};
 use cd_boc_write::Shape;
 use std::alloc::Global;
 
@@ -46,7 +47,7 @@ fn shape_at(cut: BagFault, bytes: &[u8]) -> Result<(Shape, &[u8]), BagFault>
     ensures shape { IfOk result (λ x. IsShape x.0) }
     ensures rest { IfOk result (λ x. length x.1.now ≤ length bytes.now) }
 {
-    let (magic, rest) = number_at(cut, 4, bytes)?;
+    let (magic, rest) = small_at(cut, 4, bytes)?;
     if magic != 0xb5ee9c72 {
         return Err(BagFault::Magic { value: magic });
     }
@@ -74,10 +75,10 @@ fn counts_at<'a>(
     ensures rooted { IfOk result (λ x. x.0.roots ≤ x.0.cells) }
     ensures rest { IfOk result (λ x. length x.1.now ≤ length bytes.now) }
 {
-    let (cells, rest) = number_at(cut, shape.size, bytes)?;
-    let (roots, rest) = number_at(cut, shape.size, rest)?;
-    let (absent, rest) = number_at(cut, shape.size, rest)?;
-    let (total, rest) = offset_at(cut, shape.off_bytes, rest)?;
+    let (cells, rest) = small_at(cut, shape.size, bytes)?;
+    let (roots, rest) = small_at(cut, shape.size, rest)?;
+    let (absent, rest) = small_at(cut, shape.size, rest)?;
+    let (total, rest) = number_at(cut, shape.off_bytes, rest)?;
     if roots < 1 {
         return Err(BagFault::Roots { roots, cells });
     }
@@ -123,7 +124,8 @@ fn roots_at<'a>(
 ) -> Result<(Vec<u32>, &'a [u8]), BagFault>
     requires size { size ≤ 4 }
     requires few { counts.now.roots ≤ 1048576 }
-    ensures exact { Gives (λ x. (x.0.items, x.1.now)) result (spec.roots_at cut size counts.now bytes.now) }
+    ensures exact { GivesUnless Memory (λ x. (x.0.items, x.1.now)) result
+        (spec.roots_at cut size counts.now bytes.now) }
     ensures rest { IfOk result (λ x. length x.1.now ≤ length bytes.now) }
 {
     let len = counts.roots as usize * usize::from(size);
@@ -177,7 +179,7 @@ fn end_at(cut: BagFault, has_crc: bool, front: &[u8], bytes: &[u8]) -> Result<()
 /// All of a bag but what its cell data say.
 #[tactic(auto, unfolding(crate::specs::Reading::frame_at))]
 pub(crate) fn frame_at(alloc: Global, bytes: &[u8]) -> Result<FrameText<'_>, BagFault>
-    ensures exact { Gives parts_view result (spec.frame_at bytes.now) }
+    ensures exact { GivesUnless Memory parts_view result (spec.frame_at bytes.now) }
     ensures shape { IfOk result (λ frame. IsShape frame.shape) }
 {
     let cut = BagFault::Cut {

@@ -1,13 +1,15 @@
 //! What holds of all bags of cells, as contracts of functions that do nothing.
 
-ghost use Rattle.std.specs.Prelude.{◌≡◌, ℕ, ◌≤◌, List, [], ◌∷◌, length, None};
+ghost use Rattle.std.specs.Prelude.{◌≡◌, ℕ, ◌≤◌, List, [], ◌∷◌, length, None, Some};
 ghost use Rattle.cd_base.specs.Numbers.{IsBytes};
 ghost use Rattle.cd_base.specs.declared.hash.Hash256.{Hash256};
 ghost use Rattle.cd_cell.specs.Tree.{Tree, IsWellFormed};
 ghost use Rattle.cd_cell.specs.Export.{distinct_cells, IsClashFree};
 ghost use Rattle.cd_boc_write.specs.Exports.{bag_of};
 ghost use Rattle.cd_boc_read.specs.Grammar.{Spells};
+ghost use Rattle.cd_boc_read.specs.declared.bag_fault.BagFault.{BagFault};
 ghost use Rattle.cd_boc_read.specs.BagFaults.{bag_fault};
+ghost use Rattle.cd_boc_read.specs.FaultRows.{Holds};
 
 /// Bytes have no fault exactly where they are a bag of some trees.
 pub fn bags_have_no_fault()
@@ -15,6 +17,12 @@ pub fn bags_have_no_fault()
         → Spells H bytes trees → bag_fault H bytes ≡ None }
     ensures some { (H : List ℕ → Hash256) (bytes : List ℕ) → IsBytes bytes
         → bag_fault H bytes ≡ None → (trees : List Tree) × Spells H bytes trees }
+{}
+
+/// The fault that bytes have says what is so of them.
+pub fn a_fault_holds()
+    ensures { (H : List ℕ → Hash256) (bytes : List ℕ) (fault : BagFault) → IsBytes bytes
+        → bag_fault H bytes ≡ Some fault → Holds H bytes fault }
 {}
 
 /// No bytes are a bag of two lists of trees.

@@ -14,8 +14,7 @@ mod reading;
 mod texts;
 
 pub use bag_fault::BagFault;
-pub use laws::{a_bag_has_one_list_of_trees, an_export_is_a_bag_of_its_tree, bags_have_no_fault};
+pub use laws::{
+    a_bag_has_one_list_of_trees, a_fault_holds, an_export_is_a_bag_of_its_tree, bags_have_no_fault,
+};
 pub use reading::read_bag;
-
-#[cfg(test)]
-mod tests;

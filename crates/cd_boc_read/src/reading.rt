@@ -1,14 +1,16 @@
-ghost use Rattle.std.specs.Prelude.{◌≡◌, ◌≤◌, length, map, IfOk};
+ghost use Rattle.std.specs.Prelude.{◌≡◌, ◌<◌, ◌≤◌, length, map, IfOk};
 ghost use Rattle.cd_cell.specs.Bags.{bag_trees};
-ghost use Rattle.cd_boc_read.specs.Grammar.{Spells};
+ghost use Rattle.cd_boc_read.specs.Grammar.{IsBagOf, Spells};
 ghost use Rattle.cd_boc_read.specs.Places.{stated_cells};
-ghost use Rattle.cd_boc_read.specs.BagFaults.{bag_fault, Answers};
+ghost use Rattle.cd_boc_read.specs.CellFaults.{faces_of_texts, fault_of_texts};
+ghost use Rattle.cd_boc_read.specs.BagFaults.{AreTexts, bag_fault, Answers};
+ghost use Rattle.cd_boc_read.specs.Views.{text_views, bag_view, roots_unfolded};
 
 use crate::BagFault;
-use crate::bag_text::bag_at;
+use crate::bag_text::{BagText, bag_at};
 use crate::cell_text::CellText;
 use crate::cells::cells_of;
-use cd_cell::{Bag, Hash32, least_clash};
+use cd_cell::{Bag, Face, Hash32, least_clash};
 use std::alloc::{AllocError, Global};
 
 /// The cells of a bag of cells, and its roots (TL-B, `serialized_boc`): at most 1,048,576 cells, and at least one
@@ -20,23 +22,37 @@ pub fn read_bag<H: Hash32>(alloc: Global, bytes: &[u8]) -> Result<Bag<H>, BagFau
     ensures few { IfOk result (λ bag. length bag.cells ≤ 1048576) }
     ensures rooted { IfOk result (λ bag. 1 ≤ length bag.roots) }
 {
-    let bag = match bag_at(alloc, bytes) {
-        Ok(bag) => bag,
-        Err(fault) => return Err(fault),
-    };
-    let cells = match cells_of::<H>(alloc, &bag.texts) {
-        Ok(cells) => cells,
-        Err(fault) => return Err(fault),
-    };
+    let bag = bag_at(alloc, bytes)?;
+    bag_of(alloc, bag)
+}
+
+/// The bag of cells of which these are the texts, or the first fault of the cells.
+fn bag_of<H: Hash32>(alloc: Global, bag: BagText) -> Result<Bag<H>, BagFault>
+    requires { IsBagOf (bag_view bag).0 (bag_view bag).1 }
+    ensures exact { Answers (fault_of_texts H.digest_of (bag_view bag.entry).1) result }
+    ensures trees { IfOk result (λ out. bag_trees out ≡ roots_unfolded (bag_view bag.entry)) }
+    ensures counted { IfOk result (λ out. length out.cells ≡ length (bag_view bag.entry).1) }
+    ensures roots { IfOk result (λ out. out.roots ≡ (bag_view bag.entry).0.roots) }
+{
+    let faces = faces_of::<H>(alloc, &bag.texts)?;
+    let refs = refs_of(alloc, &bag.texts)?;
+    Ok(Bag::new(faces, refs, bag.frame.roots))
+}
+
+/// The faces of cells that are well-formed and free of clashes, or the first fault of all the cells.
+fn faces_of<H: Hash32>(alloc: Global, texts: &[CellText]) -> Result<Vec<Face>, BagFault>
+    requires some { 0 < length texts.now }
+    requires few { length texts.now ≤ 1048576 }
+    requires texts { AreTexts (text_views texts.now) }
+    ensures exact { Answers (fault_of_texts H.digest_of (text_views texts.now)) result }
+    ensures faces { IfOk result (λ faces. faces.items ≡ faces_of_texts H.digest_of (text_views texts.now)) }
+{
+    let cells = cells_of::<H>(alloc, texts)?;
     match least_clash(alloc, &cells.faces, &cells.infos) {
-        Ok(None) => {}
-        Ok(Some(hash)) => return Err(BagFault::Clash { hash }),
-        Err(_) => return Err(BagFault::Memory),
+        Ok(None) => Ok(cells.faces),
+        Ok(Some(hash)) => Err(BagFault::Clash { hash }),
+        Err(_) => Err(BagFault::Memory),
     }
-    let Ok(refs) = refs_of(alloc, &bag.texts) else {
-        return Err(BagFault::Memory);
-    };
-    Ok(Bag::new(cells.faces, refs, bag.frame.roots))
 }
 
 /// The numbers of the children of each cell.

@@ -2,14 +2,15 @@ ghost use Rattle.std.specs.Prelude.{◌≡◌, ◌*◌, ◌%◌, ◌≤◌, ◌=
 ghost use Rattle.std.specs.List.{list_all};
 ghost use Rattle.cd_boc_read.specs.Grammar.{IsShape, stored_len};
 ghost use Rattle.cd_boc_read.specs.Reading as spec;
-ghost use Rattle.cd_boc_read.specs.Reading.{Gives};
+ghost use Rattle.cd_base.specs.Reading.{Gives, GivesUnless};
+ghost use Rattle.cd_boc_read.specs.declared.bag_fault.BagFault.TheVariants.{Memory};
 ghost use Rattle.cd_boc_read.specs.Views.{text_view, text_views};
 
 use crate::bag_fault::BagFault;
 use crate::cell_text::CellText;
-use crate::fields::{part_at, parted, small};
+use crate::fields::{parted, small};
 use crate::frame_text::FrameText;
-use cd_base::from_be;
+use cd_base::{from_be, part_at};
 use cd_boc_write::Shape;
 use cd_cell::{Bits, Mask};
 use std::alloc::Global;
@@ -144,7 +145,7 @@ pub(crate) fn texts_at<'a>(
     frame: &FrameText<'a>,
 ) -> Result<Vec<CellText<'a>>, BagFault>
     requires { IsShape frame.now.shape }
-    ensures { Gives (λ texts. text_views texts.items) result (spec.texts_at frame.now.shape frame.now.cells (length frame.now.cell_data.now) frame.now.cells 0 frame.now.index.now frame.now.cell_data.now) }
+    ensures { GivesUnless Memory (λ texts. text_views texts.items) result (spec.texts_at frame.now.shape frame.now.cells (length frame.now.cell_data.now) frame.now.cells 0 frame.now.index.now frame.now.cell_data.now) }
 {
     let stated = frame.cell_data.len() as u64;
     let most = frame.cell_data.len() / 2 + 1;

@@ -15,6 +15,3 @@ pub use export::{lay_out, write_bag};
 pub use layout::Layout;
 pub use shape::Shape;
 pub use write_fault::WriteFault;
-
-#[cfg(test)]
-mod tests;

@@ -75,12 +75,6 @@ length-packed (suc n) bs = ap suc (length-packed n (drop 8 bs))
 pub length-data_of : (bs : List Bool) → length (data_of bs) ≡ byte_count (length bs)
 length-data_of bs = length-packed (byte_count (length bs)) bs
 
--- what is kept for these bits
-pub IsBitText-data_of : (bs : List Bool) → length bs ≤ 1023 → IsBitText (filled (data_of bs)) (length bs)
-IsBitText-data_of bs few =
-    let same = first_bits-data_of bs (replicate (128 - length (data_of bs)) 0) in
-    record { few = few; counted = ap length same; text = ap (λ xs. filled (data_of xs)) (sym same) }
-
 -- a test of each byte, tried on all of them
 byte_of_bits-byte : (byte : ℕ) → byte < 256 → byte_of_bits (bits_of_byte byte) ≡ byte
 byte_of_bits-byte byte small = eqb-true _ _ (agree_below_at (λ b. eqb (byte_of_bits (bits_of_byte b)) b) (λ _. true) 256 byte refl small)

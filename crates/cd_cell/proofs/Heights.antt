@@ -18,7 +18,7 @@ use Rattle.cd_cell.specs.FaceView.{FaceView}
 use Rattle.cd_cell.specs.Levels.{kind_of_face, mask_by_kind, mask_of_face, kid_level, stated_depth, stated_hash, descriptor1, descriptor2, representation, is_pruned, is_merkle, level_below, height_of_face, pruned_depth, plain_depth, depth_of_face, pruned_hash, plain_hash, hash_of_face, info_of_face}
 use Rattle.cd_cell.specs.Fit.{IsFaceFit}
 use Rattle.cd_cell.specs.Tree.{Tree, cell, Trees, no_trees, tree_and, list_of, children, subtrees, subtrees_of_all, info_of, infos_of, height_of, IsWellFormed, AreWellFormed}
-use Rattle.cd_cell.specs.Steady.{IsSteady}
+use Rattle.cd_cell.specs.Steady.{IsFlat, IsSteady}
 use Rattle.cd_cell.proofs.Subtrees.{infos_of-list_of, Contains-cases, Contains-nil}
 
 -- ---- above a cell's level
@@ -162,6 +162,9 @@ module _ (H : List ℕ → Hash256) (f : FaceView) (fit : IsFaceFit f) where
   info_depth-same (suc zero) below off = depth_of_face-same f 1 below off
   info_depth-same (suc (suc zero)) below off = depth_of_face-same f 2 below off
   info_depth-same (suc (suc (suc l))) below off = absurd (omega arith)
+
+  pub IsFlat-info_of_face : IsFlat (info_of_face H f)
+  IsFlat-info_of_face = record { hashes = info_hash-same; depths = info_depth-same }
 
   -- what a cell shows is steady, whatever the masks of its children
   pub IsSteady-info_of_face : All (λ k. k.mask ≤ 7) f.kids → IsSteady (info_of_face H f)

@@ -23,3 +23,4 @@ pub mod IndexLaws
 pub mod LeastHashes
 pub mod NumberedHashes
 pub mod ClashLaws
+pub mod JoinedTrees

@@ -181,7 +181,7 @@ module _ (H : List ℕ → Hash256) where
       ap₂ (λ us later. cell exotic bits us ∷ later) kids rest
 
   -- and the value stands for its root
-  pub tree_of-listed : (root : Tree) (cs : List Tree) (old : Option Tree) → OneByInfo (cs ++ old_cells old) → AreBehind (old_cells old) cs → Contains (cs ++ old_cells old) root → tree_of H (info_of H root) (map (new_cell_of H) cs) old ≡ root
+  pub tree_of-listed : (root : Tree) (cs : List Tree) (old : List Tree) → OneByInfo (cs ++ old_cells old) → AreBehind (old_cells old) cs → Contains (cs ++ old_cells old) root → tree_of H (info_of H root) (map (new_cell_of H) cs) old ≡ root
   tree_of-listed root cs old one behind in' =
       ap (λ later. tree_with H (later ++ old_cells old) (info_of H root)) (listed_trees-are (old_cells old) cs one behind)
       ∙ tree_with-only (cs ++ old_cells old) root in' one
@@ -191,11 +191,11 @@ module _ (H : List ℕ → Hash256) where
   infos-new (c ∷ cs) = ap₂ (λ k ks. k ∷ ks) (sym (info_of-face_of H c)) (infos-new cs)
 
   -- and it fits
-  known_infos-trees : (cs : List Tree) (old : Option Tree) → known_infos H (map (new_cell_of H) cs) old ≡ map (info_of H) (cs ++ old_cells old)
+  known_infos-trees : (cs : List Tree) (old : List Tree) → known_infos H (map (new_cell_of H) cs) old ≡ map (info_of H) (cs ++ old_cells old)
   known_infos-trees cs old =
       ap (λ ks. ks ++ map (info_of H) (old_cells old)) (infos-new cs) ∙ sym (map-append (info_of H) cs (old_cells old))
 
-  shown-listed : (cs : List Tree) (old : Option Tree) (t : Tree) → Contains (cs ++ old_cells old) t → Contains (known_infos H (map (new_cell_of H) cs) old) (info_of H t)
+  shown-listed : (cs : List Tree) (old : List Tree) (t : Tree) → Contains (cs ++ old_cells old) t → Contains (known_infos H (map (new_cell_of H) cs) old) (info_of H t)
   shown-listed cs old t in' = subst (λ ks. Contains ks (info_of H t)) (sym (known_infos-trees cs old)) (Contains-mapped (info_of H) (cs ++ old_cells old) t in')
 
   -- a child listed behind a cell, or old, is listed or old
@@ -206,7 +206,7 @@ module _ (H : List ℕ → Hash256) where
       (λ there. Contains-append_right cs old c there)
       (Contains-append_cases (drop n cs) old c in')
 
-  kids-known : (cs : List Tree) (old : Option Tree) → AreBehind (old_cells old) cs → (k : ℕ) → k < length cs → All (Contains (known_infos H (map (new_cell_of H) cs) old)) (face_of H (get_or cs k no_tree)).kids
+  kids-known : (cs : List Tree) (old : List Tree) → AreBehind (old_cells old) cs → (k : ℕ) → k < length cs → All (Contains (known_infos H (map (new_cell_of H) cs) old)) (face_of H (get_or cs k no_tree)).kids
   kids-known cs old behind k in' =
       let c = get_or cs k no_tree in
       let known = known_infos H (map (new_cell_of H) cs) old in
@@ -216,7 +216,7 @@ module _ (H : List ℕ → Hash256) where
       let child = get_or (children c) p d in
       shown-listed cs old child (behind-among cs (old_cells old) (suc k) child (behind k child in' (Contains-get_or (children c) p d in-children)))))
 
-  pub Fits-listed : (root : Tree) (cs : List Tree) (old : Option Tree) → AreBehind (old_cells old) cs → Contains (cs ++ old_cells old) root → Fits H (info_of H root) (map (new_cell_of H) cs) old
+  pub Fits-listed : (root : Tree) (cs : List Tree) (old : List Tree) → AreBehind (old_cells old) cs → Contains (cs ++ old_cells old) root → Fits H (info_of H root) (map (new_cell_of H) cs) old
   Fits-listed root cs old behind in' =
       record {
         top = shown-listed cs old root in';
@@ -268,8 +268,8 @@ module _ (H : List ℕ → Hash256) where
     root-listed : Contains (all_cells ++ []) t
     root-listed = Contains-append_left all_cells [] t (Contains-distinct_cells H t clear t (subtree-itself t))
 
-    pub Fits-all_cells : Fits H (info_of H t) (map (new_cell_of H) (distinct_cells H t)) None
-    Fits-all_cells = Fits-listed t all_cells None all-behind root-listed
+    pub Fits-all_cells : Fits H (info_of H t) (map (new_cell_of H) (distinct_cells H t)) []
+    Fits-all_cells = Fits-listed t all_cells [] all-behind root-listed
 
-    pub tree_of-all_cells : tree_of H (info_of H t) (map (new_cell_of H) (distinct_cells H t)) None ≡ t
-    tree_of-all_cells = tree_of-listed t all_cells None one_by_info all-behind root-listed
+    pub tree_of-all_cells : tree_of H (info_of H t) (map (new_cell_of H) (distinct_cells H t)) [] ≡ t
+    tree_of-all_cells = tree_of-listed t all_cells [] one_by_info all-behind root-listed

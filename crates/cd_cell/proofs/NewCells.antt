@@ -2,7 +2,7 @@
 -- applied tree.
 use Rattle.std.proofs.Common.{◌≡◌, ℕ, suc, List, [], ◌∷◌, ◌++◌, get_or, drop, map, flat_map, Contains, Less, Bool, true, false, if◌then◌else◌, Option, Some, None, Ok, refl, ap, sym, ◌∙◌, subst, inl, inr, ⊎_elim, ◌⊎◌}
 use Rattle.std.specs.Option.{unwrap_or}
-use Rattle.std.proofs.lemmas.List.{get_or_default}
+use Rattle.std.proofs.lemmas.List.{get_or_default, append-nil}
 use Rattle.std.proofs.lemmas.List.Elements.{Contains-get_or, Contains-append_cases, Contains-append_left, Contains-append_right}
 use Rattle.cd_base.specs.declared.hash.Hash256.{Hash256}
 use Rattle.cd_cell.specs.declared.kind.Kind.TheVariants.{Update}
@@ -19,7 +19,7 @@ use Rattle.cd_cell.proofs.Distinct.{AreDistinct-sorted_distinct, Contains-distin
 use Rattle.cd_cell.proofs.ExportOrder.{export_cmp-total, export_cmp-higher, export_cmp-ties}
 use Rattle.cd_cell.proofs.Showing.{no_option, subtree-known}
 use Rattle.cd_cell.proofs.AppliedUpdates.{find-Some, ok-from, no_refusal, IsNew, IsNew-applied}
-use Rattle.cd_cell.proofs.ListedTrees.{IsValid-listed, Fits-listed, tree_of-listed, AreBehind, Contains-dropped}
+use Rattle.cd_cell.proofs.ListedTrees.{IsValid-listed, Fits-listed, tree_of-listed, OneByInfo, AreBehind, Contains-dropped}
 
 module _ (H : List ℕ → Hash256) (search : Tree → ℕ → Option Tree) where
   -- a tree that was found for some hidden cell
@@ -246,8 +246,11 @@ module _ (H : List ℕ → Hash256) (u t : Tree) (good_u : IsWellFormed H u) (go
         (own-root H search (half_of u 1) 0 none)
 
     -- they fit over the old tree
-    pub Fits-new_cells : Fits H (info_of H g) (map (new_cell_of H) (sorted_distinct (export_cmp H) (new_cells H u t))) (Some t)
-    Fits-new_cells = Fits-listed H g listed (Some t) behind top
+    pub Fits-new_cells : Fits H (info_of H g) (map (new_cell_of H) (sorted_distinct (export_cmp H) (new_cells H u t))) (t ∷ [])
+    Fits-new_cells =
+        Fits-listed H g listed (t ∷ [])
+        (subst (λ xs. AreBehind H xs listed) (sym (append-nil (subtrees t))) behind)
+        (subst (λ xs. Contains (listed ++ xs) g) (sym (append-nil (subtrees t))) top)
 
   -- and where the old tree and the new cells together are free of clashes, they stand for the applied tree
   module _ (clear : AreClashFree H (t ∷ own)) where
@@ -261,8 +264,13 @@ module _ (H : List ℕ → Hash256) (u t : Tree) (good_u : IsWellFormed H u) (go
         (λ old_one. Contains-append_left (subtrees t) (flat_map subtrees own) c old_one)
         (Contains-append_cases listed (subtrees t) c h)
 
-    pub tree_of-new_cells : tree_of H (info_of H g) (map (new_cell_of H) (sorted_distinct (export_cmp H) (new_cells H u t))) (Some t) ≡ g
+    pub tree_of-new_cells : tree_of H (info_of H g) (map (new_cell_of H) (sorted_distinct (export_cmp H) (new_cells H u t))) (t ∷ []) ≡ g
     tree_of-new_cells =
-        tree_of-listed H g listed (Some t)
-        (λ a b in-a in-b shows. same_subtrees H (t ∷ own) clear a b (in_pool a in-a) (in_pool b in-b) (ap rep_of_info shows))
-        (behind clear_own) (top clear_own)
+        let none = sym (append-nil (subtrees t)) in
+        let one : OneByInfo H (listed ++ subtrees t) =
+        λ a b in-a in-b shows. same_subtrees H (t ∷ own) clear a b (in_pool a in-a) (in_pool b in-b) (ap rep_of_info shows)
+        in
+        tree_of-listed H g listed (t ∷ [])
+        (subst (λ xs. OneByInfo H (listed ++ xs)) none one)
+        (subst (λ xs. AreBehind H xs listed) none (behind clear_own))
+        (subst (λ xs. Contains (listed ++ xs) g) none (top clear_own))

@@ -1,6 +1,8 @@
 -- Laws of unfolded entries: their infos and faces are those of the cells, and how a list of infos is filled from
 -- the last entry downwards.
-use Rattle.std.proofs.Common.{◌≡◌, ℕ, zero, suc, ◌+◌, ◌-◌, ◌<◌, List, [], ◌∷◌, length, get_or, set, drop, map, refl, ap, sym, ◌∙◌, add-zero, arith}
+use Rattle.std.proofs.Common.{◌≡◌, ℕ, zero, suc, ◌+◌, ◌-◌, ◌<◌, Bool, true, false, List, [], ◌∷◌, length, get_or, set, drop, map, refl, ap, sym, ◌∙◌, add-zero, arith}
+use Rattle.std.specs.Prelude.{nat_lt, if◌then◌else◌}
+use Rattle.std.proofs.lemmas.Bool.{lt-ltb}
 use Rattle.std.proofs.lemmas.List.{get_or_default, get_or-drop, drop_more, drop-set}
 use Rattle.cd_base.specs.declared.hash.Hash256.{Hash256}
 use Rattle.cd_cell.specs.declared.info.ChildInfo.{ChildInfo}
@@ -15,12 +17,21 @@ get_or-mapped f [] k d = refl
 get_or-mapped f (x ∷ xs) zero d = refl
 get_or-mapped f (x ∷ xs) (suc k) d = get_or-mapped f xs k d
 
+-- what stands behind an entry, in a mapped list
+behind-mapped : {A B : Type 0} (f : A → B) (i : ℕ) (xs : List A) (d : A) (r : ℕ) → behind i (map f xs) (f d) r ≡ f (behind i xs d r)
+behind-mapped f i xs d r =
+    let at : ℕ = r - (i + 1) in
+    elim (nat_lt i r) as (λ b. (if b then get_or (map f xs) at (f d) else f d) ≡ f (if b then get_or xs at d else d)) [
+      | true ↦ get_or-mapped f xs at d
+      | false ↦ refl
+    ]
+
 module _ (H : List ℕ → Hash256) where
   -- what the children show is looked up as the children are
   kids-looked_up : (i : ℕ) (later : List Tree) (refs : List ℕ) → map (behind i (map (info_of H) later) (info_of H no_tree)) refs ≡ infos_of H (trees_of (map (behind i later no_tree) refs))
   kids-looked_up i later [] = refl
   kids-looked_up i later (r ∷ rs) =
-      let head = get_or-mapped (info_of H) later (r - (i + 1)) no_tree in
+      let head = behind-mapped (info_of H) i later no_tree r in
       let tail = kids-looked_up i later rs in
       cc
 
@@ -82,10 +93,6 @@ module _ (H : List ℕ → Hash256) where
   pub drop-faces_from : (k : ℕ) (es : List Entry) → drop k (faces_from H 0 es) ≡ faces_from H k (drop k es)
   drop-faces_from k es = drop-faces_from-at k 0 k es (omega arith)
 
-  pub infos_from-cons : (i : ℕ) (e : Entry) (es : List Entry) → infos_from H i (e ∷ es) ≡ info_of_face H (face_of_entry H i e (infos_from H (i + 1) es)) ∷ infos_from H (i + 1) es
-  unfolding infos_from
-  infos_from-cons i e es = refl
-
   pub faces_from-cons : (i : ℕ) (e : Entry) (es : List Entry) → faces_from H i (e ∷ es) ≡ face_of_entry H i e (infos_from H (i + 1) es) ∷ faces_from H (i + 1) es
   unfolding faces_from
   faces_from-cons i e es = refl
@@ -135,7 +142,8 @@ module _ (H : List ℕ → Hash256) where
 -- a later number names the element of that number
 pub behind-drop : {A : Type 0} (i : ℕ) (xs : List A) (absent d : A) (r : ℕ) → i < r → r < length xs → behind i (drop (i + 1) xs) absent r ≡ get_or xs r d
 behind-drop i xs absent d r later below =
-    get_or-drop (i + 1) xs (r - (i + 1)) absent
+    ap (λ b. if b then get_or (drop (i + 1) xs) (r - (i + 1)) absent else absent) (lt-ltb i r later)
+    ∙ get_or-drop (i + 1) xs (r - (i + 1)) absent
     ∙ ap (λ k. get_or xs k absent) (let same : i + 1 + (r - (i + 1)) ≡ r = omega arith in same)
     ∙ get_or_default xs r absent d below
 
@@ -152,10 +160,6 @@ pub length-unfold_from : (i : ℕ) (es : List Entry) → length (unfold_from i e
 unfolding unfold_from
 length-unfold_from i [] = refl
 length-unfold_from i (e ∷ es) = ap suc (length-unfold_from (i + 1) es)
-
-pub unfold_from-cons : (i : ℕ) (e : Entry) (es : List Entry) → unfold_from i (e ∷ es) ≡ tree_of_entry i e (unfold_from (i + 1) es) ∷ unfold_from (i + 1) es
-unfolding unfold_from
-unfold_from-cons i e es = refl
 
 -- entry k among all of them, over those behind it
 pub unfolding_of-is : (k : ℕ) (es : List Entry) (d : Entry) → k < length es → unfolding_of es k ≡ tree_of_entry k (get_or es k d) (drop (k + 1) (unfold_from 0 es))

@@ -1,9 +1,10 @@
--- Small updates, computed with a weak hash: 31 zero bytes and the sum of the bytes modulo 256.
+-- Small updates and joined trees, computed with a weak hash: 31 zero bytes and the sum of the bytes modulo 256.
 use Rattle.std.proofs.Common.{◌≡◌, ℕ, ◌%◌, Bool, true, false, List, [], ◌∷◌, ◌++◌, replicate, sum, flat_map, Ok, Err, refl}
 use Rattle.cd_base.specs.declared.hash.Hash256.{Hash256}
 use Rattle.cd_cell.specs.BitText.{packed, bits_of_byte}
 use Rattle.cd_cell.specs.Levels.{plain_hash, plain_depth}
-use Rattle.cd_cell.specs.Tree.{Tree, cell, Trees, no_trees, tree_and, face_of, rep_of}
+use Rattle.cd_cell.specs.Tree.{Tree, cell, Trees, no_trees, tree_and, face_of, rep_of, height_of}
+use Rattle.cd_cell.specs.Joined.{joined_tree}
 use Rattle.cd_cell.specs.Updates.{same_upto, applied, new_cells, foreign, old_half, old_hash}
 
 abbrev weak_text : ℕ → List ℕ
@@ -119,3 +120,15 @@ stays-applied = refl
 stays-new : new_cells weak (update 3 0 0 2 (hidden 3 0) (over 17 (proof_over 7 0 (hidden 7 0)))) root ≡ over 17 (proof_over 7 0 (hidden 7 0)) ∷ proof_over 7 0 (hidden 7 0) ∷ hidden 7 0 ∷ []
 unfolding packed plain_hash plain_depth same_upto
 stays-new = refl
+
+-- the joined tree of the cells of 8 bits 01 and 02
+split : Tree
+split = joined_tree (plain (1 ∷ []) no_trees) (plain (2 ∷ []) no_trees)
+
+split-rep : rep_of weak split ≡ weak_hash 196
+unfolding split packed plain_hash plain_depth
+split-rep = refl
+
+split-depth : height_of weak split ≡ 1
+unfolding split packed plain_hash plain_depth
+split-depth = refl

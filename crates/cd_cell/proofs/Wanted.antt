@@ -1,5 +1,5 @@
 -- Where an old half shows a tree, each wanted hash is the rep of the cell that is shown: so faces are found by hash.
-use Rattle.std.proofs.Common.{◌≡◌, ℕ, zero, suc, ◌/◌, ◌^◌, ◌≤◌, ◌<◌, List, [], ◌∷◌, ◌++◌, get_or, map, All, Contains, Bool, true, false, IsTrue, if◌then◌else◌, Option, Some, None, refl, ap, ap₂, sym, ◌∙◌, subst, ⊎_elim, add-one, le_refl, eq-or-lt_of_le, lt_of_le_of_lt, arith}
+use Rattle.std.proofs.Common.{◌≡◌, ℕ, zero, suc, ◌/◌, ◌^◌, ◌≤◌, ◌<◌, ◌+◌, List, [], ◌∷◌, ◌++◌, get_or, map, All, Contains, Bool, true, false, IsTrue, if◌then◌else◌, Option, Some, None, refl, ap, ap₂, sym, ◌∙◌, subst, ⊎_elim, add-one, le_refl, eq-or-lt_of_le, lt_of_le_of_lt, arith}
 use Rattle.std.specs.Bool.{beq}
 use Rattle.std.specs.Cmp.Lexicographic.{pointwise}
 use Rattle.std.proofs.lemmas.Bool.{and_parts}
@@ -10,8 +10,9 @@ use Rattle.cd_base.specs.declared.hash.Hash256.{Hash256}
 use Rattle.cd_cell.specs.declared.info.ChildInfo.{ChildInfo}
 use Rattle.cd_cell.specs.declared.kind.Kind.{Kind}
 use Rattle.cd_cell.specs.declared.kind.Kind.TheVariants.{Ordinary, Pruned, Library, Proof, Update}
+use Rattle.cd_cell.specs.Masks.{is_significant}
 use Rattle.cd_cell.specs.BitText.{data_of}
-use Rattle.cd_cell.specs.Infos.{info_hash, all_masks}
+use Rattle.cd_cell.specs.Infos.{info_hash, info_depth, all_masks}
 use Rattle.cd_cell.specs.FaceView.{FaceView}
 use Rattle.cd_cell.specs.Levels.{kind_of_face, mask_by_kind, mask_of_face, is_merkle, level_below, kid_level}
 use Rattle.cd_cell.specs.Fit.{IsFaceFit}
@@ -25,17 +26,24 @@ use Rattle.cd_cell.proofs.LevelRecursions.{level_below-low}
 use Rattle.cd_cell.proofs.Grafting.{joined-bound}
 use Rattle.cd_cell.proofs.Showing.{matches-Decides}
 
--- a cell without a level above d has one hash from there on
-pub hash-flat : (k : ChildInfo) (d l : ℕ) → IsSteady k → k.mask < 2 ^ d → d ≤ l → l ≤ 3 → info_hash k l ≡ info_hash k d
-hash-flat k d zero steady small from low = ap (info_hash k) (let same : 0 ≡ d = omega arith in same)
-hash-flat k d (suc l) steady small from low =
+-- what is that of the level below at each level that isn't significant is one from the level of the mask on
+flat-from : {A : Type 0} (mask d l : ℕ) (at : ℕ → A) → ((n : ℕ) → n < 3 → is_significant mask (n + 1) ≡ false → at (n + 1) ≡ at n) → mask < 2 ^ d → d ≤ l → l ≤ 3 → at l ≡ at d
+flat-from mask d zero at flat small from low = ap at (let same : 0 ≡ d = omega arith in same)
+flat-from mask d (suc l) at flat small from low =
     ⊎_elim
-    (λ same. ap (info_hash k) (sym same))
+    (λ same. ap at (sym same))
     (λ above.
     let more : d ≤ l = omega arith in
-    let off = clear-bit k.mask l (omega arith) (bit_at_above k.mask d l small more) in
-    ap (info_hash k) (sym (add-one l)) ∙ steady.hashes l (omega arith) off ∙ hash-flat k d l steady small more (omega arith))
+    let off = clear-bit mask l (omega arith) (bit_at_above mask d l small more) in
+    ap at (sym (add-one l)) ∙ flat l (omega arith) off ∙ flat-from mask d l at flat small more (omega arith))
     (eq-or-lt_of_le from)
+
+-- a cell without a level above d has one hash and one depth from there on
+pub hash-flat : (k : ChildInfo) (d l : ℕ) → IsSteady k → k.mask < 2 ^ d → d ≤ l → l ≤ 3 → info_hash k l ≡ info_hash k d
+hash-flat k d l steady small from low = flat-from k.mask d l (info_hash k) steady.hashes small from low
+
+pub depth-flat : (k : ChildInfo) (d l : ℕ) → IsSteady k → k.mask < 2 ^ d → d ≤ l → l ≤ 3 → info_depth k l ≡ info_depth k d
+depth-flat k d l steady small from low = flat-from k.mask d l (info_depth k) steady.depths small from low
 
 -- the levels of children, by that of their cell
 merkle_small : (m d : ℕ) → m ≤ 7 → d ≤ 3 → m / 2 < 2 ^ d → m < 2 ^ level_below true d

@@ -6,7 +6,7 @@ use Rattle.cd_cell.specs.BagView.{BagView}
 use Rattle.cd_cell.specs.Levels.{info_of_face, rep_of_face}
 use Rattle.cd_cell.specs.CellFaults.{kid_at}
 use Rattle.cd_cell.specs.GoodFace.{IsGoodFace}
-use Rattle.cd_cell.specs.Tree.{Tree}
+use Rattle.cd_cell.specs.Tree.{Tree, height_of}
 use Rattle.cd_cell.specs.Unfolding.{Entry, unfolding_of}
 
 -- the face of the ordinary cell without bits and children, in the place of one that isn't there
@@ -39,6 +39,10 @@ bag_cell cells refs number = unfolding_of (entries_of cells refs) number
 
 abbrev pub bag_tree : BagView → ℕ → Tree
 bag_tree bag number = bag_cell bag.cells bag.refs number
+
+-- the cell of entry r is lower than that of entry number
+abbrev pub IsLower : (List ℕ → Hash256) → BagView → ℕ → ℕ → Type 0
+IsLower H bag number r = height_of H (bag_tree bag r) < height_of H (bag_tree bag number)
 
 -- the trees of the roots
 abbrev pub root_trees : List FaceView → List (List ℕ) → List ℕ → List Tree

@@ -1,4 +1,4 @@
--- Bits as bytes: the data of a cell, with the completion of a last byte that isn't full.
+-- Trusted: bits as bytes: the data of a cell, with the completion of a last byte that isn't full.
 use Rattle.std.specs.Prelude.{ℕ, zero, suc, ◌+◌, ◌-◌, ◌*◌, ◌/◌, ◌%◌, Bool, true, false, List, [], ◌∷◌, ◌++◌, length, take, drop, replicate, ◌==◌, ◌≡◌, ◌≢◌, ◌≤◌, ◌<◌, slice_index, if◌then◌else◌}
 use Rattle.std.specs.List.{flat_map}
 use Rattle.std.specs.Int.{w8, trailing_zeros}

@@ -1,4 +1,4 @@
--- What is wrong with a face: the first fault, in the order of the table of faults.
+-- Trusted: what is wrong with a face: the first fault, in the order of the table of faults.
 use Rattle.std.specs.Prelude.{ℕ, ◌+◌, ◌*◌, Bool, not, ◌&&◌, ◌||◌, [], length, slice_index, slice_index_or, ◌==◌, nat_lt, nat_le, max, if◌then◌else◌, Option, Some, None}
 use Rattle.std.specs.Option.{option_or}
 use Rattle.cd_cell.specs.declared.limits.TheConstants.{GREATEST_DEPTH}

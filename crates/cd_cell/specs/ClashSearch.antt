@@ -1,4 +1,4 @@
--- The search for two different cells of one hash, by sorted pairs of a hash and a cell's number.
+-- Inner: the search for two different cells of one hash, by sorted pairs of a hash and a cell's number.
 use Rattle.std.specs.Prelude.{◌≡◌, ◌≢◌, ℕ, ◌+◌, ◌<◌, List, [], ◌∷◌, length, slice_index_or}
 use Rattle.std.specs.List.{AllAdjacentBelow}
 use Rattle.cd_base.specs.declared.hash.Hash256.{Hash256}

@@ -1,4 +1,4 @@
--- Equality of bits, infos and faces as tests, with the proof that each tells equality.
+-- Trusted: equality of bits, infos and faces as tests, with the proof that each tells equality.
 use Rattle.std.specs.Prelude.{◌≡◌, ◌↔◌, IsTrue, ℕ, Bool, true, false, ◌&&◌, List, nat_eq, refl}
 use Rattle.std.specs.Bool.{beq, Decides}
 use Rattle.std.specs.Str.{bytes_eq}
@@ -38,33 +38,32 @@ same_hash-Decides a b =
     let bytes = bytes_decides a.0 b.0 in
     (λ h. ap whole (bytes.0 h), λ h. bytes.1 (ap (λ (x : Hash256). x.0) h))
 
+-- a test of three parts, for what the parts make up
+parts-Decides : {A B C X : Type 0} (make : A → B → C → X) (p : X → A) (q : X → B) (r : X → C) (whole : (x : X) → make (p x) (q x) (r x) ≡ x) (a b : X) (s t u : Bool)
+    → Decides s (p a ≡ p b) → Decides t (q a ≡ q b) → Decides u (r a ≡ r b) → Decides ((s && t) && u) (a ≡ b)
+parts-Decides make p q r whole a b s t u first second third = (
+  λ h.
+      let both = and_parts (s && t) u h in
+      let front = and_parts s t both.0 in
+      sym (whole a) ∙ ap₂ (λ x y. make x y (r a)) (first.0 front.0) (second.0 front.1) ∙ ap (make (p b) (q b)) (third.0 both.1) ∙ whole b,
+  λ h. and_from (s && t) u (and_from s t (first.1 (ap p h)) (second.1 (ap q h))) (third.1 (ap r h)),
+)
+
 pub same_info-Decides : (a b : ChildInfo) → Decides (same_info a b) (a ≡ b)
 same_info-Decides a b =
-    let mask = Decides-eqb a.mask b.mask in
-    let hashes = pointwise_decides same_hash-Decides a.hashes b.hashes in
-    let depths = pointwise_decides Decides-eqb a.depths b.depths in (
-      λ h.
-          let both = and_parts _ _ h in
-          let first = and_parts _ _ both.0 in
-          let front : ℕ → List Hash256 → ChildInfo = λ m hs. record { mask = m; hashes = hs; depths = a.depths } in
-          let back : List ℕ → ChildInfo = λ ds. record { mask = b.mask; hashes = b.hashes; depths = ds } in
-          ap₂ front (mask.0 first.0) (hashes.0 first.1) ∙ ap back (depths.0 both.1),
-      λ h. and_from _ _ (and_from _ _ (mask.1 (ap (λ (x : ChildInfo). x.mask) h)) (hashes.1 (ap (λ (x : ChildInfo). x.hashes) h))) (depths.1 (ap (λ (x : ChildInfo). x.depths) h)),
-    )
+    let make : ℕ → List Hash256 → List ℕ → ChildInfo = λ m hs ds. record { mask = m; hashes = hs; depths = ds } in
+    parts-Decides make (λ x. x.mask) (λ x. x.hashes) (λ x. x.depths) (λ x. refl) a b _ _ _
+    (Decides-eqb a.mask b.mask)
+    (pointwise_decides same_hash-Decides a.hashes b.hashes)
+    (pointwise_decides Decides-eqb a.depths b.depths)
 
 pub same_face-Decides : (a b : FaceView) → Decides (same_face a b) (a ≡ b)
 same_face-Decides a b =
-    let flag = beq-Decides a.exotic b.exotic in
-    let bits = same_bits-Decides a.bits b.bits in
-    let kids = pointwise_decides same_info-Decides a.kids b.kids in (
-      λ h.
-          let both = and_parts _ _ h in
-          let first = and_parts _ _ both.0 in
-          let front : Bool → List Bool → FaceView = λ e bs. record { exotic = e; bits = bs; kids = a.kids } in
-          let back : List ChildInfo → FaceView = λ ks. record { exotic = b.exotic; bits = b.bits; kids = ks } in
-          ap₂ front (flag.0 first.0) (bits.0 first.1) ∙ ap back (kids.0 both.1),
-      λ h. and_from _ _ (and_from _ _ (flag.1 (ap (λ (x : FaceView). x.exotic) h)) (bits.1 (ap (λ (x : FaceView). x.bits) h))) (kids.1 (ap (λ (x : FaceView). x.kids) h)),
-    )
+    let make : Bool → List Bool → List ChildInfo → FaceView = λ e bs ks. record { exotic = e; bits = bs; kids = ks } in
+    parts-Decides make (λ x. x.exotic) (λ x. x.bits) (λ x. x.kids) (λ x. refl) a b _ _ _
+    (beq-Decides a.exotic b.exotic)
+    (same_bits-Decides a.bits b.bits)
+    (pointwise_decides same_info-Decides a.kids b.kids)
 
 -- a result that is the test tells equality
 pub iff_from_same_face : (r : Bool) (a b : FaceView) → r ≡ same_face a b → IsTrue r ↔ (a ≡ b)

@@ -1,4 +1,4 @@
--- The distinct cells of a tree in the order of an export, and trees without clashes of hashes.
+-- Trusted: the distinct cells of a tree in the order of an export, and trees without clashes of hashes.
 use Rattle.std.specs.Prelude.{◌≡◌, ℕ, List, [], ◌∷◌, Contains, AllPairs}
 use Rattle.std.specs.List.{flat_map}
 use Rattle.std.specs.Ordering.{nat_cmp, ordering_then, match_ordering}

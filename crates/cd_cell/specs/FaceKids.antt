@@ -1,4 +1,4 @@
--- At most four children in an array of four, with a filler behind them.
+-- Inner: at most four children in an array of four, with a filler behind them.
 use Rattle.std.specs.Prelude.{◌≡◌, ℕ, ◌-◌, ◌≤◌, List, ◌++◌, length, take, replicate}
 use Rattle.cd_cell.specs.declared.info.ChildInfo.{ChildInfo}
 use Rattle.cd_cell.specs.Infos.{no_hash}

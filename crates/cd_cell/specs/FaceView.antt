@@ -1,4 +1,4 @@
--- A cell without the cells below it, as contracts see it.
+-- Trusted: a cell without the cells below it, as contracts see it.
 use Rattle.std.specs.Prelude.{Bool, List}
 use Rattle.cd_cell.specs.declared.info.ChildInfo.{ChildInfo}
 

@@ -1,4 +1,4 @@
--- The faces of well-formed cells, as a fact for each kind (TVM documentation, "Cells").
+-- Trusted: the faces of well-formed cells, as a fact for each kind (TVM documentation, "Cells").
 use Rattle.std.specs.Prelude.{◌≡◌, ◌≢◌, ℕ, ◌+◌, ◌*◌, ◌≤◌, length, Some, None}
 use Rattle.cd_cell.specs.declared.limits.TheConstants.{GREATEST_DEPTH}
 use Rattle.cd_cell.specs.declared.kind.Kind.TheVariants.{Pruned, Library, Proof, Update}

@@ -1,4 +1,4 @@
--- The faces of cells within the limits of a cell.
+-- Trusted: the faces of cells within the limits of a cell.
 use Rattle.std.specs.Prelude.{◌≤◌, length}
 use Rattle.cd_cell.specs.declared.limits.TheConstants.{MOST_BITS}
 use Rattle.cd_cell.specs.FaceView.{FaceView}

@@ -1,4 +1,4 @@
--- Where hashes stand in a list.
+-- Trusted: where hashes stand in a list.
 use Rattle.std.specs.Prelude.{◌≡◌, ℕ, ◌<◌, false, List, length, slice_index_or, Some, None}
 use Rattle.std.specs.List.{list_any}
 use Rattle.std.specs.BTreeMap.{get}

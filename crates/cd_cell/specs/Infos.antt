@@ -1,4 +1,4 @@
--- What a cell shows of itself to its parents, level by level.
+-- Trusted: what a cell shows of itself to its parents, level by level.
 use Rattle.std.specs.Prelude.{ℕ, ◌+◌, List, replicate, slice_index, slice_index_or, max, bit_or}
 use Rattle.std.specs.List.{fold}
 use Rattle.cd_base.specs.declared.hash.Hash256.{Hash256}

@@ -1,4 +1,4 @@
--- Mask, depth and hash of a cell at a level by recursion over all cells below it (TVM documentation, "Cells",
+-- Trusted: mask, depth and hash of a cell at a level by recursion over all cells below it (TVM documentation, "Cells",
 -- "Level mask", "Representation hash"). `info_of` in `Tree` gives the same, cell by cell.
 use Rattle.std.specs.Prelude.{ℕ, zero, suc, ◌+◌, ◌*◌, ◌/◌, Bool, List, [], ◌∷◌, ◌++◌, length, slice_index, bit_or, max, nat_lt, if◌then◌else◌, Option, Some, None}
 use Rattle.std.specs.List.{fold, flat_map}

@@ -1,4 +1,4 @@
--- Kind, mask, depth and hash of a cell by what its children show (TVM documentation, "Cells", "Level mask",
+-- Trusted: kind, mask, depth and hash of a cell by what its children show (TVM documentation, "Cells", "Level mask",
 -- "Representation hash"), over any function from bytes to hashes.
 use Rattle.std.specs.Prelude.{ℕ, zero, suc, ◌+◌, ◌*◌, ◌/◌, Bool, true, false, List, [], ◌∷◌, ◌++◌, length, take, drop, slice_index, ◌==◌, nat_lt, min, if◌then◌else◌, Option, Some, None}
 use Rattle.std.specs.List.{flat_map}
@@ -68,6 +68,15 @@ pruned_depth f l =
     let count = bit_count (mask_of_face f) in
     if nat_lt (pruned_place f l) count then stated_depth f (2 + 32 * count + 2 * pruned_place f l) else 0
 
+-- the hash that a pruned branch states for a level, else its own
+abbrev pub stated_or : FaceView → ℕ → Hash256 → Hash256
+stated_or f l own =
+    if nat_lt (pruned_place f l) (bit_count (mask_of_face f)) then stated_hash f (2 + 32 * pruned_place f l) else own
+
+-- something at each of the four levels
+abbrev pub by_level : {A : Type 0} → (ℕ → A) → List A
+by_level at = at 0 ∷ at 1 ∷ at 2 ∷ at 3 ∷ []
+
 -- the depth of a cell at a level, where it is no pruned branch; at a level that isn't significant it is that of the level below
 abbrev pub next_depth : FaceView → ℕ → ℕ → ℕ
 next_depth f l below = if is_significant (mask_of_face f) l then depth_above (kid_level f l) f.kids else below
@@ -102,10 +111,7 @@ representation f mask contents level =
 
 module _ (H : List ℕ → Hash256) where
   abbrev pub pruned_hash : FaceView → ℕ → Hash256
-  pruned_hash f l =
-      if nat_lt (pruned_place f l) (bit_count (mask_of_face f))
-      then stated_hash f (2 + 32 * pruned_place f l)
-      else H (representation f (mask_of_face f) (data_of f.bits) l)
+  pruned_hash f l = stated_or f l (H (representation f (mask_of_face f) (data_of f.bits) l))
 
   -- the hash of a cell at a level, where it is no pruned branch; above level 0 the hash below stands in the place of the data
   abbrev pub next_hash : FaceView → ℕ → Hash256 → Hash256
@@ -123,8 +129,8 @@ module _ (H : List ℕ → Hash256) where
   abbrev pub info_of_face : FaceView → ChildInfo
   info_of_face f = record {
     mask = mask_of_face f;
-    hashes = hash_of_face f 0 ∷ hash_of_face f 1 ∷ hash_of_face f 2 ∷ hash_of_face f 3 ∷ [];
-    depths = depth_of_face f 0 ∷ depth_of_face f 1 ∷ depth_of_face f 2 ∷ depth_of_face f 3 ∷ [];
+    hashes = by_level (hash_of_face f);
+    depths = by_level (depth_of_face f);
   }
 
   abbrev pub rep_of_face : FaceView → Hash256

@@ -17,6 +17,7 @@ pub mod BagView
 pub mod Bags
 pub mod PreparedView
 pub mod Listings
+pub mod Joined
 pub mod Updates
 pub mod StoredText
 pub mod Clashes

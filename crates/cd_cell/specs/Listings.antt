@@ -1,6 +1,6 @@
--- New cells in the order of an export, and the prepared values that list them.
-use Rattle.std.specs.Prelude.{◌≡◌, ℕ, ◌<◌, ◌≤◌, IsTrue, Bool, ◌||◌, List, [], ◌∷◌, ◌++◌, length, map, take, find, slice_index_or, Contains, All, AllPairs, Option, Some, None, unwrap_or}
-use Rattle.std.specs.List.{list_any}
+-- Trusted: new cells in the order of an export, and the prepared values that list them.
+use Rattle.std.specs.Prelude.{◌≡◌, ℕ, ◌<◌, ◌≤◌, IsTrue, Bool, ◌||◌, List, [], ◌∷◌, ◌++◌, length, map, take, find, slice_index_or, Contains, All, AllPairs, unwrap_or}
+use Rattle.std.specs.List.{list_any, flat_map}
 use Rattle.std.specs.Ordering.{nat_cmp, ordering_then}
 use Rattle.std.specs.declared.cmp.Ordering.{Ordering}
 use Rattle.std.specs.declared.cmp.Ordering.TheVariants.{Less}
@@ -27,10 +27,9 @@ listed_at cells place = slice_index_or cells place no_cell
 abbrev pub listing_cmp : NewCell → NewCell → Ordering
 listing_cmp a b = ordering_then (nat_cmp (height_of_face b.face) (height_of_face a.face)) (hash_cmp a.hash b.hash)
 
--- the cells of an old tree, if there is one
-abbrev pub old_cells : Option Tree → List Tree
-old_cells None = []
-old_cells (Some t) = subtrees t
+-- the cells of some old trees: none for a state that is new whole, two where two shards are merged
+abbrev pub old_cells : List Tree → List Tree
+old_cells olds = flat_map subtrees olds
 
 module _ (H : List ℕ → Hash256) where
   -- a cell as it is listed
@@ -56,16 +55,16 @@ module _ (H : List ℕ → Hash256) where
     pub plain : root.mask ≡ 0
     pub shallow : height_of_info root ≤ GREATEST_DEPTH
 
-  -- ---- over an old tree
+  -- ---- over old trees
 
   -- what listed cells and old cells show
-  abbrev pub known_infos : List NewCell → Option Tree → List ChildInfo
-  known_infos cells old = map info_of_new cells ++ map (info_of H) (old_cells old)
+  abbrev pub known_infos : List NewCell → List Tree → List ChildInfo
+  known_infos cells olds = map info_of_new cells ++ map (info_of H) (old_cells olds)
 
   -- the root and each kid are those of a listed cell or of an old one
-  pub record Fits (root : ChildInfo) (cells : List NewCell) (old : Option Tree) : Type 0 where
-    pub top : Contains (known_infos cells old) root
-    pub kids : All (λ c. All (Contains (known_infos cells old)) c.face.kids) cells
+  pub record Fits (root : ChildInfo) (cells : List NewCell) (olds : List Tree) : Type 0 where
+    pub top : Contains (known_infos cells olds) root
+    pub kids : All (λ c. All (Contains (known_infos cells olds)) c.face.kids) cells
 
   -- the first of some cells that shows this
   abbrev pub tree_with : List Tree → ChildInfo → Tree
@@ -78,6 +77,7 @@ module _ (H : List ℕ → Hash256) where
       let later = listed_trees old cs in
       cell c.face.exotic c.face.bits (trees_of (map (tree_with (later ++ old)) c.face.kids)) ∷ later
 
-  -- the tree that a prepared value stands for
-  abbrev pub tree_of : ChildInfo → List NewCell → Option Tree → Tree
-  tree_of root cells old = tree_with (listed_trees (old_cells old) cells ++ old_cells old) root
+  -- the tree that a prepared value stands for: the listed cell that shows the root's info, else the first cell with it of
+  -- the first old tree that has one
+  abbrev pub tree_of : ChildInfo → List NewCell → List Tree → Tree
+  tree_of root cells olds = tree_with (listed_trees (old_cells olds) cells ++ old_cells olds) root

@@ -1,4 +1,4 @@
--- Level masks: numbers from 0 to 7, whose bit l - 1 stands for level l.
+-- Trusted: level masks: numbers from 0 to 7, whose bit l - 1 stands for level l.
 use Rattle.std.specs.Prelude.{ℕ, ◌+◌, ◌-◌, ◌/◌, ◌%◌, ◌^◌, Bool, ◌||◌, ◌==◌, nat_lt, if◌then◌else◌}
 
 -- the mask of the levels up to l

@@ -1,4 +1,4 @@
--- Hashes and depths of a cell at its significant levels as bytes, as a record has them for a child and a bag of cells for
+-- Trusted: hashes and depths of a cell at its significant levels as bytes, as a record has them for a child and a bag of cells for
 -- a cell that is stored with them (TL-B, `serialized_boc`).
 use Rattle.std.specs.Prelude.{ℕ, List, [], ◌∷◌, ◌++◌}
 use Rattle.std.specs.List.{filter, flat_map}

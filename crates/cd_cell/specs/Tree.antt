@@ -1,4 +1,4 @@
--- Cells as trees, with their hashes and depths, over any function from bytes to hashes.
+-- Trusted: cells as trees, with their hashes and depths, over any function from bytes to hashes.
 use Rattle.std.specs.Prelude.{ℕ, ◌≤◌, Bool, List, [], ◌∷◌, ◌++◌, length, Option}
 use Rattle.cd_cell.specs.declared.limits.TheConstants.{MOST_BITS}
 use Rattle.cd_base.specs.declared.hash.Hash256.{Hash256}

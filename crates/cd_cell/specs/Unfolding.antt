@@ -1,5 +1,5 @@
--- The cells that a list of entries describes, as in a bag of cells: the children of an entry stand behind it.
-use Rattle.std.specs.Prelude.{ℕ, ◌+◌, ◌-◌, ◌<◌, Bool, false, List, [], ◌∷◌, length, map, slice_index, slice_index_or}
+-- Trusted: the cells that a list of entries describes, as in a bag of cells: the children of an entry stand behind it.
+use Rattle.std.specs.Prelude.{ℕ, ◌+◌, ◌-◌, ◌<◌, Bool, false, List, [], ◌∷◌, length, map, slice_index, slice_index_or, nat_lt, if◌then◌else◌}
 use Rattle.cd_base.specs.declared.hash.Hash256.{Hash256}
 use Rattle.cd_cell.specs.declared.info.ChildInfo.{ChildInfo}
 use Rattle.cd_cell.specs.FaceView.{FaceView}
@@ -18,7 +18,7 @@ no_tree = cell false [] no_trees
 
 -- what a number names, given what stands behind entry i; `absent` where it names nothing behind it
 abbrev pub behind : {A : Type 0} → ℕ → List A → A → ℕ → A
-behind i later absent r = slice_index_or later (r - (i + 1)) absent
+behind i later absent r = if nat_lt i r then slice_index_or later (r - (i + 1)) absent else absent
 
 -- the cell of entry i, over the cells of the entries behind it
 abbrev pub tree_of_entry : ℕ → Entry → List Tree → Tree

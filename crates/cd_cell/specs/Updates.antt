@@ -1,4 +1,4 @@
--- Merkle updates: the old half shows a part of an old tree, and the new half is grafted onto what it shows (TVM
+-- Trusted: Merkle updates: the old half shows a part of an old tree, and the new half is grafted onto what it shows (TVM
 -- documentation, "Exotic cells"). At Merkle depth d, the number of Merkle cells above inside the half and at most 3,
 -- cells are compared by their levels up to d.
 use Rattle.std.specs.Prelude.{◌≡◌, ℕ, zero, suc, ◌+◌, ◌/◌, ◌^◌, ◌≤◌, IsTrue, Bool, true, false, ◌&&◌, nat_eq, ◌==◌, if◌then◌else◌, List, [], ◌∷◌, ◌++◌, find, slice_index_or, Option, Some, None, unwrap_or, Result, Ok, Err}

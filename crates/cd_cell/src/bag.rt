@@ -1,9 +1,9 @@
 ghost use Rattle.std.specs.Prelude.{◌≡◌, ◌↔◌, ◌<◌, ◌≤◌, ℕ, [], length, map, take, slice_index_or, All, IsTrue};
-ghost use Rattle.cd_cell.specs.Infos.{info_hash};
+ghost use Rattle.cd_cell.specs.Infos.{info_hash, info_depth};
 ghost use Rattle.cd_cell.specs.GoodFace.{IsGoodFace};
-ghost use Rattle.cd_cell.specs.Tree.{children, info_of, face_of, rep_of, height_of, IsWellFormed};
-ghost use Rattle.cd_cell.specs.LevelRecursion.{tree_hash};
-ghost use Rattle.cd_cell.specs.Bags.{bag_tree, face_at, refs_at, IsBag};
+ghost use Rattle.cd_cell.specs.Tree.{children, info_of, face_of, rep_of};
+ghost use Rattle.cd_cell.specs.LevelRecursion.{tree_mask, tree_depth, tree_hash};
+ghost use Rattle.cd_cell.specs.Bags.{bag_tree, face_at, refs_at, IsLower, IsBag};
 
 use crate::{ChildInfo, Face, Hash32, face_info};
 use std::marker::{Model, PhantomData};
@@ -92,7 +92,7 @@ impl<H: Hash32> Bag<H> {
         ensures numbers { result.now ≡ refs_at self.now number }
         ensures behind { All (λ r. (number < r) × (r < length self.now.cells)) result.now }
         ensures cells { children (bag_tree self.now number) ≡ map (bag_tree self.now) result.now }
-        ensures lower { All (λ r. height_of H.digest_of (bag_tree self.now r) < height_of H.digest_of (bag_tree self.now number)) result.now }
+        ensures lower { All (IsLower H.digest_of self.now number) result.now }
     {
         let count = self.face(number).refs() as usize;
         let refs = self.refs();
@@ -104,7 +104,11 @@ impl<H: Hash32> Bag<H> {
     pub fn info(&self, number: u32) -> ChildInfo
         requires { number < length self.now.cells }
         ensures info { result ≡ info_of H.digest_of (bag_tree self.now number) }
-        ensures levels { (l : ℕ) → l ≤ 3 → info_hash result l ≡ tree_hash H.digest_of (bag_tree self.now number) l }
+        ensures kept { IsBag H.digest_of self.now.cells self.now.refs self.now.roots }
+        // Over the whole tree: mask, depths and hashes are those of the recursion over levels and children.
+        ensures mask { result.mask ≡ tree_mask (bag_tree self.now number) }
+        ensures depths { (l : ℕ) → l ≤ 3 → info_depth result l ≡ tree_depth (bag_tree self.now number) l }
+        ensures hashes { (l : ℕ) → l ≤ 3 → info_hash result l ≡ tree_hash H.digest_of (bag_tree self.now number) l }
     {
         face_info::<H>(self.face(number))
     }
@@ -114,34 +118,9 @@ impl<H: Hash32> Bag<H> {
         requires a { a < length self.now.cells }
         requires b { b < length self.now.cells }
         ensures value { IsTrue result ↔ (bag_tree self.now a ≡ bag_tree self.now b) }
-        ensures reps { IsTrue result ↔ (rep_of H.digest_of (bag_tree self.now a) ≡ rep_of H.digest_of (bag_tree self.now b)) }
+        ensures reps { IsTrue result
+            ↔ (rep_of H.digest_of (bag_tree self.now a) ≡ rep_of H.digest_of (bag_tree self.now b)) }
     {
         *self.face(a) == *self.face(b)
-    }
-}
-
-#[cfg(test)]
-mod tests {
-    use super::*;
-    use crate::{Bits, Sha};
-    use std::test::Fail;
-
-    #[test]
-    fn a_bag_of_the_empty_cell(rt: HostRuntime) -> Result<(), Fail> {
-        let alloc = rt.alloc();
-        let bits = Bits::from_slice(&[], 0).ok_or("bits")?;
-        let mut cells = Vec::new(alloc);
-        cells.push(Face::new(false, bits, &[]))?;
-        let mut refs = Vec::new(alloc);
-        refs.push([0; 4])?;
-        let mut roots = Vec::new(alloc);
-        roots.push(0)?;
-        let bag: Bag<Sha> = Bag::new(cells, refs, roots);
-        assert_eq!(rt; bag.face(0).refs(), 0);
-        assert_eq!(rt; bag.children(0).len(), 0);
-        assert_eq!(rt; bag.info(0).depths, [0; 4]);
-        assert!(rt; bag.same(0, 0));
-        assert_eq!(rt; bag.roots().len(), 1);
-        Ok(())
     }
 }

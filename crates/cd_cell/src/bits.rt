@@ -55,7 +55,8 @@ impl Bits {
         ensures value { IfSome result (λ bits. data_of bits ≡ bytes.now) }
         ensures read { IfSome result (λ bits. bits ≡ data_bits whole bytes.now) }
         ensures whole { IfSome result (λ bits. (length bits % 8 == 0) ≡ whole) }
-        ensures only { (bits : List Bool) → length bits ≤ MOST_BITS → data_of bits ≡ bytes.now → (length bits % 8 == 0) ≡ whole → result ≡ Some bits }
+        ensures only { (bits : List Bool) → length bits ≤ MOST_BITS → data_of bits ≡ bytes.now
+            → (length bits % 8 == 0) ≡ whole → result ≡ Some bits }
     {
         if whole {
             if bytes.len() > 127 {

@@ -20,12 +20,13 @@ impl Face {
     /// The kind of the cell, or the first fault that keeps it from being well-formed where its children are
     /// (TVM documentation, "Cells").
     pub fn check(&self) -> Result<Kind, CellFault>
-        ensures exact { MatchResult result (λ kind. (face_fault self.now ≡ None) × (kind_of_face self.now ≡ Some kind))
+        ensures exact { MatchResult result
+            (λ kind. (face_fault self.now ≡ None) × (kind_of_face self.now ≡ Some kind))
             (λ fault. face_fault self.now ≡ Some fault) }
         ensures fit { IfOk result (λ _. IsFaceFit self.now) }
         ensures good { IfOk result (λ _. IsGoodFace self.now) }
-        ensures tree { (H : List ℕ → Hash256) (t : Tree) → face_of H t ≡ self.now → All (IsWellFormed H) (children t) →
-            IsOk result ↔ IsWellFormed H t }
+        ensures tree { (H : List ℕ → Hash256) (t : Tree) → face_of H t ≡ self.now
+            → All (IsWellFormed H) (children t) → IsOk result ↔ IsWellFormed H t }
     {
         let kind = form(self)?;
         let depth = greatest(self, kind);
@@ -40,7 +41,8 @@ impl Face {
 
 // The kind, or the first fault but for the depth.
 fn form(face: &Face) -> Result<Kind, CellFault>
-    ensures exact { MatchResult result (λ kind. (form_fault face.now ≡ None) × (kind_of_face face.now ≡ Some kind))
+    ensures exact { MatchResult result
+        (λ kind. (form_fault face.now ≡ None) × (kind_of_face face.now ≡ Some kind))
         (λ fault. form_fault face.now ≡ Some fault) }
     ensures pruned { IfOk result (λ kind. kind ≡ Kind.Pruned → IsPrunedFace face.now) }
 {

@@ -1,4 +1,4 @@
-ghost use Rattle.std.specs.Prelude.{◌≡◌, ◌+◌, ◌≤◌, ◌<◌, [], ◌∷◌, ◌++◌, length};
+ghost use Rattle.std.specs.Prelude.{◌≡◌, ◌+◌, ◌≤◌, [], ◌++◌, length};
 
 use crate::put::put;
 use std::marker::Model;
@@ -32,14 +32,6 @@ impl DigestText {
             bytes: [0; ROOM],
             len: 0,
         }
-    }
-
-    /// Puts a byte behind the others.
-    pub fn push(&mut self, byte: u8)
-        requires { length self.old + 1 ≤ 266 }
-        ensures { self.new ≡ self.old ++ byte ∷ [] }
-    {
-        self.extend(&[byte]);
     }
 
     /// Puts a piece behind the others.

@@ -56,7 +56,7 @@ impl Face {
     /// Puts a child behind the others.
     pub fn push(&mut self, kid: &ChildInfo)
         requires { length self.old.kids < 4 }
-        ensures { self.new ≡ record { exotic = self.old.exotic; bits = self.old.bits; kids = self.old.kids ++ kid.now ∷ [] } }
+        ensures { self.new ≡ record self.old { kids = self.old.kids ++ kid.now ∷ [] } }
     {
         self.kids[self.refs as usize] = *kid;
         self.refs += 1;

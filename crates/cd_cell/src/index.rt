@@ -27,7 +27,8 @@ impl Index {
 
     /// A place in which the hash stands.
     pub fn place(&self, hash: &Hash256) -> Option<usize>
-        ensures { (keys : List Hash256) → IsIndex self.now keys → MatchOption result (list_any (same_hash hash.now) keys ≡ false)
+        ensures { (keys : List Hash256) → IsIndex self.now keys → MatchOption result
+            (list_any (same_hash hash.now) keys ≡ false)
             (λ place. (place < length keys) × (slice_index_or keys place no_hash ≡ hash.now)) }
     {
         self.places.get(hash).copied()
@@ -35,7 +36,8 @@ impl Index {
 
     /// One hash more, behind the others: its place is their number.
     pub fn push(&mut self, hash: Hash256, place: usize) -> Result<(), Memory>
-        ensures pushed { OnOk result ((keys : List Hash256) → IsIndex self.old keys → place ≡ length keys → IsIndex self.new (keys ++ hash ∷ [])) }
+        ensures pushed { OnOk result ((keys : List Hash256) → IsIndex self.old keys
+            → place ≡ length keys → IsIndex self.new (keys ++ hash ∷ [])) }
         ensures kept { OnErr result ((keys : List Hash256) → IsIndex self.old keys → IsIndex self.new keys) }
     {
         match self.places.insert(hash, place) {

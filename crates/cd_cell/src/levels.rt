@@ -1,7 +1,7 @@
 ghost use Rattle.std.specs.Prelude.{◌≡◌, ◌≢◌, ℕ, ◌+◌, ◌*◌, ◌≤◌, ◌<◌, [], ◌∷◌, ◌++◌, length, Some, None, take, drop, slice_index};
 ghost use Rattle.cd_base.specs.declared.hash.Hash256.{Hash256};
 ghost use Rattle.cd_cell.specs.Infos.{all_masks, depth_above};
-ghost use Rattle.cd_cell.specs.Levels.{kind_of_face, is_merkle, mask_of_face, level_below, descriptor1, descriptor2, depths_text, hashes_text, representation, next_depth, plain_depth, next_hash, plain_hash};
+ghost use Rattle.cd_cell.specs.Levels.{kind_of_face, is_merkle, mask_of_face, level_below, descriptor1, descriptor2, depths_text, hashes_text, representation, next_depth, plain_depth, next_hash, plain_hash, by_level};
 
 use crate::digest_text::DigestText;
 use crate::{Bits, ChildInfo, Face, Hash32, Kind, Mask};
@@ -120,7 +120,7 @@ pub fn plain_mask(face: &Face, kind: Kind) -> Mask
 pub fn plain_depths(face: &Face, mask: Mask, merkle: bool) -> [u32; 4]
     requires mask { mask_of_face face.now ≡ mask }
     requires merkle { is_merkle (kind_of_face face.now) ≡ merkle }
-    ensures { result ≡ plain_depth face.now 0 ∷ plain_depth face.now 1 ∷ plain_depth face.now 2 ∷ plain_depth face.now 3 ∷ [] }
+    ensures { result ≡ by_level (plain_depth face.now) }
 {
     let zero = depth_above(face.kids(), level_below(merkle, 0));
     let one = depth_at(face, mask, merkle, 1, zero);
@@ -148,8 +148,7 @@ fn depth_at(face: &Face, mask: Mask, merkle: bool, l: u8, below: u32) -> u32
 pub fn plain_hashes<H: Hash32>(face: &Face, mask: Mask, merkle: bool) -> [Hash256; 4]
     requires mask { mask_of_face face.now ≡ mask }
     requires merkle { is_merkle (kind_of_face face.now) ≡ merkle }
-    ensures { result ≡ plain_hash H.digest_of face.now 0 ∷ plain_hash H.digest_of face.now 1 ∷ plain_hash H.digest_of face.now 2
-        ∷ plain_hash H.digest_of face.now 3 ∷ [] }
+    ensures { result ≡ by_level (plain_hash H.digest_of face.now) }
 {
     let text = text_of(face, Mask::NONE, face.bits().data(), level_below(merkle, 0));
     let zero = H::digest(text.bytes());

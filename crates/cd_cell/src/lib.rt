@@ -39,6 +39,3 @@ pub use mask::Mask;
 pub use new_cell::NewCell;
 pub use prepared::Prepared;
 pub use shown::face_info;
-
-#[cfg(test)]
-mod tests;

@@ -67,24 +67,3 @@ impl<H: Hash32> Prepared<H> {
         &self.cells
     }
 }
-
-#[cfg(test)]
-mod tests {
-    use super::*;
-    use crate::{Mask, Sha};
-    use std::test::Fail;
-
-    #[test]
-    fn a_value_without_new_cells_keeps_its_root(rt: HostRuntime) -> Result<(), Fail> {
-        let hash = Hash256([7; 32]);
-        let root = ChildInfo {
-            mask: Mask::of(0).ok_or("a mask")?,
-            hashes: [hash; 4],
-            depths: [3; 4],
-        };
-        let prepared: Prepared<Sha> = Prepared::new(Some(hash), root, Vec::new(rt.alloc()));
-        assert_eq!(rt; *prepared.root(), root);
-        assert_eq!(rt; prepared.old(), Some(hash));
-        Ok(())
-    }
-}

@@ -1,7 +1,7 @@
 ghost use Rattle.std.specs.Prelude.{◌≡◌, ℕ, ◌+◌, ◌*◌, ◌≤◌, [], ◌∷◌, length, Some, take, drop, slice_index, nat_lt, if◌then◌else◌};
 ghost use Rattle.cd_cell.specs.declared.kind.Kind.TheVariants.{Pruned};
 ghost use Rattle.cd_cell.specs.Masks.{bit_count};
-ghost use Rattle.cd_cell.specs.Levels.{kind_of_face, mask_of_face, stated_hash, pruned_place, pruned_depth, info_of_face};
+ghost use Rattle.cd_cell.specs.Levels.{kind_of_face, mask_of_face, pruned_place, pruned_depth, by_level, stated_or, info_of_face};
 ghost use Rattle.cd_cell.specs.Fit.{IsPrunedFace};
 
 use crate::levels::text_of;
@@ -34,7 +34,7 @@ pub fn pruned_info<H: Hash32>(face: &Face) -> ChildInfo
 pub fn pruned_depths(face: &Face) -> [u16; 4]
     requires kind { kind_of_face face.now ≡ Some Pruned }
     requires fit { IsPrunedFace face.now }
-    ensures { result ≡ pruned_depth face.now 0 ∷ pruned_depth face.now 1 ∷ pruned_depth face.now 2 ∷ pruned_depth face.now 3 ∷ [] }
+    ensures { result ≡ by_level (pruned_depth face.now) }
 {
     let mask = pruned_mask(face);
     [
@@ -60,7 +60,7 @@ fn hash_at(face: &Face, mask: Mask, l: u8, own: Hash256) -> Hash256
     requires fit { IsPrunedFace face.now }
     requires mask { mask_of_face face.now ≡ mask }
     requires level { l ≤ 3 }
-    ensures { result ≡ (if nat_lt (pruned_place face.now l) (bit_count mask) then stated_hash face.now (2 + 32 * pruned_place face.now l) else own) }
+    ensures { result ≡ stated_or face.now l own }
 {
     let place = mask.apply(l).count();
     if place >= mask.count() {

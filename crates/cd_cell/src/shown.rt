@@ -2,6 +2,7 @@ ghost use Rattle.std.specs.Prelude.{◌≡◌, ◌≢◌, Some};
 ghost use Rattle.cd_cell.specs.declared.kind.Kind.TheVariants.{Pruned};
 ghost use Rattle.cd_cell.specs.Levels.{kind_of_face, info_of_face};
 ghost use Rattle.cd_cell.specs.Fit.{IsFaceFit};
+ghost use Rattle.cd_cell.specs.Steady.{IsFlat};
 ghost use Rattle.cd_cell.specs.Tree.{Tree, face_of, info_of};
 
 use crate::levels::{kind_of, plain_depths, plain_hashes, plain_mask};
@@ -14,6 +15,7 @@ use crate::{ChildInfo, Face, Hash32, Kind};
 pub fn face_info<H: Hash32>(face: &Face) -> ChildInfo
     requires { IsFaceFit face.now }
     ensures face { result ≡ info_of_face H.digest_of face.now }
+    ensures flat { IsFlat result }
     ensures tree { (t : Tree) → face_of H.digest_of t ≡ face.now → result ≡ info_of H.digest_of t }
 {
     match kind_of(face) {

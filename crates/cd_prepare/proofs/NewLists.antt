@@ -174,10 +174,10 @@ module _ (H : List ℕ → Hash256) (faces : List FaceView) where
           }
 
     -- what a listed face shows is known
-    pub known-listed : (old : Option Tree) (f : FaceView) → Contains faces f → Contains (known_infos H cells old) (info_of_face H f)
+    pub known-listed : (old : List Tree) (f : FaceView) → Contains faces f → Contains (known_infos H cells old) (info_of_face H f)
     known-listed old f h = Contains-append_left (map (info_of_new H) cells) (map (info_of H) (old_cells old)) (info_of_face H f) (Contains-mapped (info_of_new H) cells (new_cell_with H f) (listed.whole f h))
 
-    pub Fits-faces : (root : ChildInfo) (old : Option Tree) → Contains (known_infos H cells old) root → ((f : FaceView) → Contains faces f → (k : ChildInfo) → Contains f.kids k → Contains (known_infos H cells old) k) → Fits H root cells old
+    pub Fits-faces : (root : ChildInfo) (old : List Tree) → Contains (known_infos H cells old) root → ((f : FaceView) → Contains faces f → (k : ChildInfo) → Contains f.kids k → Contains (known_infos H cells old) k) → Fits H root cells old
     Fits-faces root old top kids = record {
       top = top;
       kids = λ k d in-cells.

@@ -36,10 +36,10 @@ module _ (H : List ℕ → Hash256) (cells : List FaceView) (refs : List (List �
     root_is = shown;
     cells_are = all;
     fits =
-        subst (λ i. Fits H i listed None) (sym shown)
-        (subst (λ cs. Fits H (info_of H t) cs None) (sym all) (Fits-all_cells H t (well_formed-root H cells refs roots bag root in') (clash_free-root H cells refs roots bag root in')));
+        subst (λ i. Fits H i listed []) (sym shown)
+        (subst (λ cs. Fits H (info_of H t) cs []) (sym all) (Fits-all_cells H t (well_formed-root H cells refs roots bag root in') (clash_free-root H cells refs roots bag root in')));
     stands =
-        ap₂ (λ i cs. tree_of H i cs None) shown all
+        ap₂ (λ i cs. tree_of H i cs []) shown all
         ∙ tree_of-all_cells H t (well_formed-root H cells refs roots bag root in') (clash_free-root H cells refs roots bag root in');
   }
 

@@ -1,9 +1,9 @@
 -- Laws of prepared updates: which fault comes, and what the listed cells are over an old tree.
-use Rattle.std.proofs.Common.{◌≡◌, ℕ, ◌<◌, List, length, get_or, map, AllPairs, Contains, Option, Some, None, Ok, Less, refl, ap, ap₂, sym, ◌∙◌, subst, inl, inr, ⊎_elim, ◌⊎◌, arith}
+use Rattle.std.proofs.Common.{◌≡◌, ℕ, ◌<◌, List, length, get_or, map, AllPairs, Contains, Option, Some, None, Ok, Less, refl, ap, ap₂, sym, ◌∙◌, subst, inl, inr, ⊎_elim, ◌⊎◌, arith, [], ◌∷◌}
 use Rattle.std.specs.Option.{option_or, option_map}
 use Rattle.std.specs.List.{flat_map}
 use Rattle.std.proofs.lemmas.List.{length-map, get_or-map}
-use Rattle.std.proofs.lemmas.List.Elements.{Contains-append_right}
+use Rattle.std.proofs.lemmas.List.Elements.{Contains-append_left, Contains-append_right}
 use Rattle.cd_base.specs.declared.hash.Hash256.{Hash256}
 use Rattle.cd_cell.specs.declared.info.ChildInfo.{ChildInfo}
 use Rattle.cd_cell.specs.declared.new_cell.NewCell.{NewCell}
@@ -14,7 +14,7 @@ use Rattle.cd_cell.specs.Tree.{Tree, subtrees, info_of, face_of, rep_of}
 use Rattle.cd_cell.specs.Unfolding.{no_tree}
 use Rattle.cd_cell.specs.Equality.{same_info, same_info-Decides, same_face, same_face-Decides}
 use Rattle.cd_cell.specs.Export.{export_cmp, sorted_distinct, AreDistinct}
-use Rattle.cd_cell.specs.Listings.{listing_cmp, new_cell_of, known_infos, info_of_new}
+use Rattle.cd_cell.specs.Listings.{listing_cmp, new_cell_of, old_cells, known_infos, info_of_new}
 use Rattle.cd_cell.specs.Updates.{UpdateRefusal, foreign, first_foreign, found_in, grafted, half_of, known_of, hash_refusal, depth_refusal, half_refusal, graft_refusal, refusal_of, or_refused, applied}
 use Rattle.cd_cell.proofs.Subtrees.{Contains-map, Contains-mapped, info_of-face_of}
 use Rattle.cd_cell.proofs.Distinct.{same-rising, rises-from_AllPairs, AreDistinct-sorted_distinct}
@@ -113,12 +113,12 @@ module _ (H : List ℕ → Hash256) (u t : Tree) where
       applied-is = ap (λ o. or_refused o (grafted H (found_in H (known_of H u t)) (half_of u 1) 0)) no-refusal
 
   -- what is known of the old tree is what its cells show
-  pub known-old : (known : List ChildInfo) → known ≡ each_once same_info (map (info_of H) (known_of H u t)) → (cells : List NewCell) (k : ChildInfo) → Contains known k → Contains (known_infos H cells (Some t)) k
+  pub known-old : (known : List ChildInfo) → known ≡ each_once same_info (map (info_of H) (known_of H u t)) → (cells : List NewCell) (k : ChildInfo) → Contains known k → Contains (known_infos H cells (t ∷ [])) k
   known-old known are cells k h =
       let met = Contains-map (info_of H) (known_of H u t) k (Contains-each_once_cases same_info same_info-Decides (map (info_of H) (known_of H u t)) k (subst (λ ks. Contains ks k) are h)) in
-      subst (Contains (known_infos H cells (Some t))) met.2
-      (Contains-append_right (map (info_of_new H) cells) (map (info_of H) (subtrees t)) (info_of H met.0)
-      (Contains-mapped (info_of H) (subtrees t) met.0 (subtree-known H (half_of u 0) t 0 met.0 met.1)))
+      subst (Contains (known_infos H cells (t ∷ []))) met.2
+      (Contains-append_right (map (info_of_new H) cells) (map (info_of H) (old_cells (t ∷ []))) (info_of H met.0)
+      (Contains-mapped (info_of H) (old_cells (t ∷ [])) met.0 (Contains-append_left (subtrees t) [] met.0 (subtree-known H (half_of u 0) t 0 met.0 met.1))))
 
 -- ---- which fault comes by the faces alone
 

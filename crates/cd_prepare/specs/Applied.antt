@@ -1,5 +1,5 @@
 -- Updates applied to an old tree, and what preparing one answers.
-use Rattle.std.specs.Prelude.{◌≡◌, ℕ, List, ◌∷◌, map, Option, Some, Ok}
+use Rattle.std.specs.Prelude.{◌≡◌, ℕ, List, ◌∷◌, map, Option, Some, Ok, []}
 use Rattle.std.specs.Option.{option_or, option_map}
 use Rattle.std.specs.List.{flat_map}
 use Rattle.cd_base.specs.declared.hash.Hash256.{Hash256}
@@ -62,5 +62,5 @@ module _ (H : List ℕ → Hash256) (u t : Tree) where
     pub is_applied : applied H u t ≡ Ok tree
     pub root_is : root ≡ info_of H tree
     pub cells_are : cells ≡ map (new_cell_of H) (sorted_distinct (export_cmp H) (new_cells H u t))
-    pub fits : Fits H root cells (Some t)
-    pub stands : AreClashFree H (t ∷ new_cells H u t) → tree_of H root cells (Some t) ≡ tree
+    pub fits : Fits H root cells (t ∷ [])
+    pub stands : AreClashFree H (t ∷ new_cells H u t) → tree_of H root cells (t ∷ []) ≡ tree

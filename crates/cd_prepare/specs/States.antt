@@ -24,8 +24,8 @@ module _ (H : List ℕ → Hash256) where
   pub record IsWhole (t : Tree) (root : ChildInfo) (cells : List NewCell) : Type 0 where
     pub root_is : root ≡ info_of H t
     pub cells_are : cells ≡ map (new_cell_of H) (distinct_cells H t)
-    pub fits : Fits H root cells None
-    pub stands : tree_of H root cells None ≡ t
+    pub fits : Fits H root cells []
+    pub stands : tree_of H root cells [] ≡ t
 
 -- the answer is Ok exactly where there is no fault, and else that fault, but for want of memory
 abbrev pub Answers : {A : Type 0} → Option PrepareFault → Result A PrepareFault → Type 0

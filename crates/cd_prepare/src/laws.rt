@@ -1,6 +1,6 @@
 //! What holds of prepared values, as contracts of functions that do nothing.
 
-ghost use Rattle.std.specs.Prelude.{◌≡◌, ℕ, List, ◌∷◌, map, Some, Ok};
+ghost use Rattle.std.specs.Prelude.{◌≡◌, ℕ, List, ◌∷◌, map, Some, Ok, []};
 ghost use Rattle.cd_base.specs.declared.hash.Hash256.{Hash256};
 ghost use Rattle.cd_cell.specs.declared.kind.Kind.TheVariants.{Update};
 ghost use Rattle.cd_cell.specs.Tree.{Tree, info_of, kind_of, mask_of, IsWellFormed};
@@ -21,5 +21,5 @@ pub fn all_cells_of_a_state_stand_for_it()
 pub fn new_cells_stand_for_the_applied_tree()
     ensures { (H : List ℕ → Hash256) (u t new : Tree) → IsWellFormed H u → IsWellFormed H t → kind_of H u ≡ Some Update → mask_of H u ≡ 0
         → applied H u t ≡ Ok new → AreClashFree H (t ∷ new_cells H u t)
-        → tree_of H (info_of H new) (map (new_cell_of H) (sorted_distinct (export_cmp H) (new_cells H u t))) (Some t) ≡ new }
+        → tree_of H (info_of H new) (map (new_cell_of H) (sorted_distinct (export_cmp H) (new_cells H u t))) (t ∷ []) ≡ new }
 {}

@@ -322,9 +322,9 @@ fn check_row(rt: &impl Abort, alloc: Global, row: &Row) -> Result<(), Fail> {
     check_layers(rt, alloc, row, &update, &faces)?;
     let old = info_of(row.old);
     let value = prepare_update(alloc, &update, &old, &faces)?;
-    assert!(rt; value.old == Some(old.rep()));
-    assert!(rt; value.root == info_of(row.root));
-    assert!(rt; listed(alloc, value.cells.as_slice())? == hashes_of(alloc, row.listed)?);
+    assert!(rt; value.old() == Some(old.rep()));
+    assert!(rt; *value.root() == info_of(row.root));
+    assert!(rt; listed(alloc, value.cells())? == hashes_of(alloc, row.listed)?);
     Ok(())
 }
 
@@ -594,9 +594,9 @@ fn each_cell_is_listed_once_in_the_order_of_an_export(rt: HostRuntime) -> Result
     let alloc = rt.alloc();
     for (cells, hashes, height) in &STATES {
         let value = prepare_zero(alloc, &bag_of(alloc, 1, cells)?)?;
-        assert!(rt; value.old.is_none());
-        assert!(rt; value.root.height() == *height);
-        assert!(rt; listed(alloc, value.cells.as_slice())? == hashes_of(alloc, hashes)?);
+        assert!(rt; value.old().is_none());
+        assert!(rt; value.root().height() == *height);
+        assert!(rt; listed(alloc, value.cells())? == hashes_of(alloc, hashes)?);
     }
     Ok(())
 }
@@ -647,7 +647,7 @@ fn between(alloc: Global, old: &ChildInfo, new: &ChildInfo) -> Result<Bag<Sha>, 
 
 // What the root of a bag shows.
 fn root_of(bag: &Bag<Sha>) -> Result<ChildInfo, Fail> {
-    match bag.roots.as_slice() {
+    match bag.roots() {
         [root, ..] => Ok(bag.info(*root)),
         [] => Err(Fail::from("a root")),
     }
@@ -661,8 +661,7 @@ fn counts(
 ) -> Result<(usize, usize, usize, ChildInfo), Fail> {
     let before = root_of(old)?;
     let faces: Vec<Option<Face>> = old
-        .cells
-        .as_slice()
+        .cells()
         .iter()
         .map(|face| Some(*face))
         .collect(alloc)?;
@@ -672,8 +671,8 @@ fn counts(
     Ok((
         wanted,
         known.infos.as_slice().len(),
-        value.cells.as_slice().len(),
-        value.root,
+        value.cells().len(),
+        *value.root(),
     ))
 }
 

@@ -1,4 +1,3 @@
-use Rattle.std.proofs.Common.{ap, sym, Ok}
 use Rattle.cd_boc_read.specs.Reading.{numbers_in}
 use Rattle.cd_boc_read.proofs.Loops.{numbers_more, numbers_done}
 use Rattle.cd_boc_read.proofs.fields.numbers_in.Goals as goal
@@ -9,4 +8,4 @@ loop-preserved c =
     (numbers_more c.loop.numbers.items c.args.len c.args.count c.loop.counter c.loop.rest.now (numbers_in c.args.len c.args.count c.args.bytes.now) c.loop-test.true c.loop.invariant)
 
 pub returns : goal.returns
-returns c = ap Ok (sym (numbers_done c.loop.numbers.items c.args.len c.args.count c.loop.counter c.loop.rest.now (numbers_in c.args.len c.args.count c.args.bytes.now) c.loop-test.false c.loop.invariant))
+returns c = numbers_done c.loop.numbers.items c.args.len c.args.count c.loop.counter c.loop.rest.now (numbers_in c.args.len c.args.count c.args.bytes.now) c.loop-test.false c.loop.invariant

@@ -13,6 +13,7 @@ all_of f = texts_at f.shape f.cells (length f.cell_data.now) f.cells 0 f.index.n
 
 pub returns-in-Err : goal.returns-in-Err
 returns-in-Err c =
+    λ _.
     texts_fail c.args.frame.now.shape c.args.frame.now.cells (length c.args.frame.now.cell_data.now) (text_views c.loop-number.texts.items) c.loop-number.number c.loop-number.index.now c.loop-number.rest.now (all_of c.args.frame.now) c.loop-number.invariant.0
     c.loop-number-test.true c.in-Err.fault c.in-Err.ensures.exact
 

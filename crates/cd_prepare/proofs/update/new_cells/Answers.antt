@@ -8,7 +8,7 @@ pub least_clash-requires-clause-counted : goal.least_clash-requires-clause-count
 least_clash-requires-clause-counted g c = ap length c.requires.shown ∙ length-map c.args.faces.now (info_of_face g.H.Hash32.digest_of)
 
 pub listed-requires-clause-clear : goal.listed-requires-clause-clear
-listed-requires-clause-clear g c κs within = clash_of-found g.H.Hash32.digest_of c.args.faces.now c.args.infos.now c.in-Ok-None.field-0 c.requires.shown c.in-Ok-None.ensures ∙ c.in-Ok-None.field-0-is
+listed-requires-clause-clear g c = clash_of-found g.H.Hash32.digest_of c.args.faces.now c.args.infos.now c.in-Ok-None.field-0 c.requires.shown c.in-Ok-None.ensures ∙ c.in-Ok-None.field-0-is
 
 pub returns-in-Ok-clause-exact : goal.returns-in-Ok-clause-exact
 returns-in-Ok-clause-exact g c = clash_of-found g.H.Hash32.digest_of c.args.faces.now c.args.infos.now c.in-Ok-None.field-0 c.requires.shown c.in-Ok-None.ensures ∙ c.in-Ok-None.field-0-is

@@ -1,5 +1,5 @@
 -- The update is well-formed and of mask 0, so what is grafted of it is too; over an old tree its faults are the tree's.
-use Rattle.std.proofs.Common.{◌≡◌, Contains, Some, ap, ap₂, sym, subst, ◌∙◌, ◌⊎◌, ⊎_elim}
+use Rattle.std.proofs.Common.{◌≡◌, Contains, Some, ap, ap₂, sym, subst, ◌∙◌, ◌⊎◌, ⊎_elim, [], ◌∷◌}
 use Rattle.cd_cell.specs.declared.info.ChildInfo.{ChildInfo}
 use Rattle.cd_cell.specs.FaceView.{FaceView}
 use Rattle.cd_cell.specs.Infos.{rep_of_info}
@@ -31,15 +31,15 @@ returns-in-Err-graft-clause-exact g c t are =
     answer-graft H u t paired.0 c.in-Err-graft.fault c.from-in-Err-graft.result c.from-in-Err-graft.ensures (c.in-Err-graft.ensures.tree (known_of H u t) paired.1)
 
 pub new_cells-requires-clause-good : goal.new_cells-requires-clause-good
-new_cells-requires-clause-good g c κs within =
+new_cells-requires-clause-good g c =
     let H = g.H.Hash32.digest_of in
     let update = c.args.update.now in
     let bag = update.bag.now in
     let u = bag_tree bag update.root in
     good-faces H u (well-update H bag.cells bag.refs bag.roots update.is_bag update.root update.is_update) (kind-update H bag.cells bag.refs bag.roots update.is_bag update.root update.is_update) (mask-update H bag.cells bag.refs bag.roots update.is_bag update.root update.is_update) c.in-Ok.known.infos c.in-Ok.known.old c.in-Ok-graft.ensures.refused c.as_slice.result.now (c.as_slice.ensures ∙ c.in-Ok-graft.ensures.cells)
 
-pub new-requires-after_bounds : goal.new-requires-after_bounds
-new-requires-after_bounds g c κs within =
+pub new-requires : goal.new-requires
+new-requires g c =
     let H = g.H.Hash32.digest_of in
     let update = c.args.update.now in
     let bag = update.bag.now in
@@ -110,10 +110,10 @@ returns-in-Ok-new_cells-clause-applied g c t are =
     let applies = applied-is H u t paired.0 new.0 in
     let root_is = c.new.ensures.root ∙ new.1 in
     let cells_are = c.new.ensures.cells ∙ listed-new_cells H (new_cells H u t) faces (c.as_slice.ensures ∙ new.2) clear cells listed in
-    let shown : (k : ChildInfo) → ((f : FaceView) × Contains faces f × (info_of_face H f ≡ k)) ⊎ Contains known k → Contains (known_infos H cells (Some t)) k =
+    let shown : (k : ChildInfo) → ((f : FaceView) × Contains faces f × (info_of_face H f ≡ k)) ⊎ Contains known k → Contains (known_infos H cells (t ∷ [])) k =
     λ k h.
     ⊎_elim
-    (λ own. subst (Contains (known_infos H cells (Some t))) own.2 (known-listed H faces cells listed (Some t) own.0 own.1))
+    (λ own. subst (Contains (known_infos H cells (t ∷ []))) own.2 (known-listed H faces cells listed (t ∷ []) own.0 own.1))
     (λ old. known-old H u t known paired.1 cells k old)
     h
     in
@@ -123,13 +123,13 @@ returns-in-Ok-new_cells-clause-applied g c t are =
       root_is = root_is;
       cells_are = cells_are;
       fits =
-          subst (λ r. Fits H r c.new.result.cells (Some t)) (sym (c.new.ensures.root ∙ c.in-Ok-graft.ensures.root))
-          (subst (λ cs. Fits H (grafted_info H known (half_of u 1) 0) cs (Some t)) (sym c.new.ensures.cells)
-          (Fits-faces H faces cells listed (grafted_info H known (half_of u 1) 0) (Some t)
+          subst (λ r. Fits H r c.new.result.cells (t ∷ [])) (sym (c.new.ensures.root ∙ c.in-Ok-graft.ensures.root))
+          (subst (λ cs. Fits H (grafted_info H known (half_of u 1) 0) cs (t ∷ [])) (sym c.new.ensures.cells)
+          (Fits-faces H faces cells listed (grafted_info H known (half_of u 1) 0) (t ∷ [])
           (shown (grafted_info H known (half_of u 1) 0) (root-shown H u well kind plain known c.in-Ok.known.old none faces made))
           (λ f h k kid. shown k (kids-shown H u well kind plain known c.in-Ok.known.old none faces made f h k kid))));
       stands = λ free.
-          ap₂ (λ r cs. tree_of H r cs (Some t)) root_is cells_are
+          ap₂ (λ r cs. tree_of H r cs (t ∷ [])) root_is cells_are
           ∙ tree_of-new_cells H u t well are.well kind plain tree applies free;
     }
 

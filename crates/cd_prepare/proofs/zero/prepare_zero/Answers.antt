@@ -3,8 +3,8 @@ use Rattle.cd_cell.proofs.BagLaws.{clash_free-bag_trees}
 use Rattle.cd_prepare.proofs.StateLaws.{IsValid-prepared, IsWhole-prepared}
 use Rattle.cd_prepare.proofs.zero.prepare_zero.Goals as goal
 
-pub new-requires-after_bounds : goal.new-requires-after_bounds
-new-requires-after_bounds g c κs within =
+pub new-requires : goal.new-requires
+new-requires g c =
     let start = c.of-start.result in
     let bag = start.bag.now in
     IsValid-prepared g.H.Hash32.digest_of bag.cells bag.refs bag.roots start.is_bag start.number start.there start.info c.in-Ok.cells.items start.shown c.in-Ok.ensures.cells

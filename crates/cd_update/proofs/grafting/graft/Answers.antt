@@ -39,8 +39,11 @@ returns-in-Some-clause-tree g c ts are =
     ∙ first_of-half H bag.cells bag.refs bag.roots update.is_bag update.root update.is_update 1 c.in-Ok.walk.visits.items c.half-start.result.node c.half-start.ensures.shown.entry c.half-start.ensures.depth c.half-start.ensures.cell c.in-Ok.ensures.nodes (foreign_at H known)
     ∙ foreign-tree H ts known are (half_of u 1) 0)
 
-pub grafted_of-requires-after_bounds : goal.grafted_of-requires-after_bounds
-grafted_of-requires-after_bounds g c κs within =
+pub grafted_of-requires-clause-kept : goal.grafted_of-requires-clause-kept
+grafted_of-requires-clause-kept g c = c.args.update.now.is_bag
+
+pub grafted_of-requires-clause-grafting : goal.grafted_of-requires-clause-grafting
+grafted_of-requires-clause-grafting g c =
     let H = g.H.Hash32.digest_of in
     let update = c.args.update.now in
     let bag = update.bag.now in

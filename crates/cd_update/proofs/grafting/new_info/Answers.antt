@@ -34,8 +34,8 @@ returns-then-is_unchanged g c =
     ∙ ap (info_of_face H) (c.face-shown.ensures.cell ∙ c.face-shown.ensures.face ∙ sym same)
     ∙ sym (info-visible H c.args.known.now.infos c.requires.grafting.old t n.depth shown)
 
-pub face_info-requires-after_bounds : goal.face_info-requires-after_bounds
-face_info-requires-after_bounds g c κs within =
+pub face_info-requires : goal.face_info-requires
+face_info-requires g c =
     let H = g.H.Hash32.digest_of in
     let bag = c.args.bag.now in
     let walk = c.args.walk.now in

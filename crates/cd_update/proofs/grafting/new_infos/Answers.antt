@@ -29,7 +29,7 @@ index-visit-requires g c =
     omega (arith, (walk.numbered.back left c.in-Some.number some).0, walk.visits.ok)
 
 pub new_info-info-requires-clause-visited : goal.new_info-info-requires-clause-visited
-new_info-info-requires-clause-visited g c κs within =
+new_info-info-requires-clause-visited g c =
     let walk = c.args.walk.now in
     let left = c.loop-left.left - 1 in
     let in' : left < length walk.numbers.items = omega (arith, c.loop-left.invariant.low) in
@@ -37,7 +37,7 @@ new_info-info-requires-clause-visited g c κs within =
     (c.in-Some.number, (walk.numbered.back left c.in-Some.number some).0, sym c.index-visit.ensures)
 
 pub new_info-info-requires-clause-grafted : goal.new_info-info-requires-clause-grafted
-new_info-info-requires-clause-grafted g c κs within =
+new_info-info-requires-clause-grafted g c =
     let walk = c.args.walk.now in
     let bag = c.args.bag.now in
     let left = c.loop-left.left - 1 in

@@ -35,12 +35,12 @@ loop-number-preserved-then-is_hidden g c =
     }
 
 pub new_face-face-requires-clause-grafted : goal.new_face-face-requires-clause-grafted
-new_face-face-requires-clause-grafted g c κs within =
+new_face-face-requires-clause-grafted g c =
     let bag = c.args.bag.now in
     grafted-weaker g.H.Hash32.digest_of c.args.known.now.infos bag.cells bag.refs c.args.walk.now.visits.items (spot c.index-visit.result.now.node + 1) c.args.infos.now c.requires.grafted
 
 pub add-requires-clause-info : goal.add-requires-clause-info
-add-requires-clause-info g c κs within =
+add-requires-clause-info g c =
     let H = g.H.Hash32.digest_of in
     let known = c.args.known.now.infos in
     let bag = c.args.bag.now in

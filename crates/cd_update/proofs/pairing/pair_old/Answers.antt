@@ -33,11 +33,11 @@ returns-in-Err-clause-tree g c t are =
     (refusal-tree H u (well-update H bag.cells bag.refs bag.roots update.is_bag update.root update.is_update) (kind-update H bag.cells bag.refs bag.roots update.is_bag update.root update.is_update) t c.args.root.now c.args.faces.now are)
     (returns-in-Err-clause-refused g c)
 
-pub check_visits-requires-after_bounds : goal.check_visits-requires-after_bounds
-check_visits-requires-after_bounds g c κs within = subst (All (IsShown g.H.Hash32.digest_of c.args.update.now.bag.now.cells)) (sym c.as_slice-visits.ensures.value) c.in-Ok.ensures.shown
+pub check_visits-requires : goal.check_visits-requires
+check_visits-requires g c = subst (All (IsShown g.H.Hash32.digest_of c.args.update.now.bag.now.cells)) (sym c.as_slice-visits.ensures.value) c.in-Ok.ensures.shown
 
-pub infos_of-requires-after_bounds : goal.infos_of-requires-after_bounds
-infos_of-requires-after_bounds g c κs within = subst (All (IsShown g.H.Hash32.digest_of c.args.update.now.bag.now.cells)) (sym c.as_slice-visits.ensures.value) c.in-Ok.ensures.shown
+pub infos_of-requires : goal.infos_of-requires
+infos_of-requires g c = subst (All (IsShown g.H.Hash32.digest_of c.args.update.now.bag.now.cells)) (sym c.as_slice-visits.ensures.value) c.in-Ok.ensures.shown
 
 pub returns-in-Err-check_visits-clause-refused : goal.returns-in-Err-check_visits-clause-refused
 returns-in-Err-check_visits-clause-refused g c =

@@ -13,7 +13,7 @@ loop-visit-init g c =
           subst (λ vs. IsWalking H bag.cells bag.refs c.args.start.node vs c.in_ok-pending.pending.items) (sym c.in_ok-walk.ensures.none)
           (subst (λ vs. IsWalking H bag.cells bag.refs c.args.start.node [] vs) (sym c.in_ok-pending.ensures.items)
           (IsWalking-start H bag.cells bag.refs bag.roots c.cells.ensures.kept c.args.start c.requires));
-      wide = c.in_ok-walk.ensures.wide ∙ ap (λ xs. 4 * length xs) c.as_slice.ensures;
+      wide = c.in_ok-walk.ensures.wide ∙ ap (λ xs. 4 * length xs) c.cells.ensures.value;
     }
 
 pub add-requires-clause-depth : goal.add-requires-clause-depth
@@ -26,10 +26,10 @@ add-requires-clause-entry g c =
     let bag = c.args.bag.now in
     omega (arith, c.loop-visit.invariant.wide, (top-shown g.H.Hash32.digest_of bag.cells bag.refs bag.roots c.cells.ensures.kept c.args.start.node c.loop-visit.walk.visits.items c.loop-visit.pending.items c.pop.new.self.items c.in-Some.visit c.loop-visit.invariant.walking c.in-Some.ensures.items).entry)
 
-pub push_children-requires-clause-shown : goal.push_children-requires-clause-shown
-push_children-requires-clause-shown g c κs within =
+pub push_children-requires : goal.push_children-requires
+push_children-requires g c =
     let bag = c.args.bag.now in
-    top-shown g.H.Hash32.digest_of bag.cells bag.refs bag.roots c.cells.ensures.kept c.args.start.node c.loop-visit.walk.visits.items c.loop-visit.pending.items c.pop.new.self.items c.in-Some.visit c.loop-visit.invariant.walking c.in-Some.ensures.items
+    record { shown = top-shown g.H.Hash32.digest_of bag.cells bag.refs bag.roots c.cells.ensures.kept c.args.start.node c.loop-visit.walk.visits.items c.loop-visit.pending.items c.pop.new.self.items c.in-Some.visit c.loop-visit.invariant.walking c.in-Some.ensures.items }
 
 pub loop-visit-smaller-in-Continue-branch-4 : goal.loop-visit-smaller-in-Continue-branch-4
 loop-visit-smaller-in-Continue-branch-4 g c =

@@ -1,6 +1,0 @@
-use Rattle.std.proofs.Common.{All}
-use Rattle.cd_cell.specs.GoodFace.{IsGoodFace}
-use Rattle.cd_boc_write.proofs.tests.export.Given as goal
-
-abbrev pub invariant-loop-face : goal.invariant-loop-face
-invariant-loop-face l = All (λ c. IsGoodFace c.face) l.cells.items

@@ -1,0 +1,9 @@
+//! Tests of cells by their public calls alone.
+#![tactic(auto)]
+
+#[cfg(test)]
+mod bags;
+#[cfg(test)]
+mod faces;
+#[cfg(test)]
+mod levels;

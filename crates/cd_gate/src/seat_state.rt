@@ -1,0 +1,31 @@
+//! What a seat at the gate knows, as the rule of the gate's table sees it. No value of these types is made.
+use std::collections::LinkedList;
+
+/// What a seat is about to do.
+pub enum Role<E> {
+    /// Nothing: it is between two calls.
+    Idle,
+    /// It waits for the turn of this ticket.
+    Waiting(u64),
+    /// It has the turn of this ticket, and the value.
+    Holding(u64),
+    /// It took in another seat: its numbers from this one on have seen this list.
+    Joined(u64, LinkedList<E>),
+}
+
+/// The workers' numbers from `lowest` to below `end`, and the entries that were seen. A spent seat has no number and no
+/// start.
+pub struct SeatState<E, S> {
+    /// What it is about to do.
+    pub role: Role<E>,
+    /// The least of its numbers.
+    pub lowest: u64,
+    /// The least number behind its own.
+    pub end: u64,
+    /// The entries that it has seen.
+    pub seen: LinkedList<E>,
+    /// What the gate's value began with.
+    pub start: Option<S>,
+    /// How many numbers the gate has.
+    pub workers: u64,
+}
