@@ -22,7 +22,7 @@ pub use answers::{Failed, Memory};
 pub use byte_reader::ByteReader;
 pub use byte_writer::ByteWriter;
 pub use checksum::{Crc, crc32c};
-pub use counts::raised;
+pub use counts::one_more;
 pub use hash::Hash256;
 pub use lists::Listed;
 pub use memory_sink::{MemorySink, SteadySink};

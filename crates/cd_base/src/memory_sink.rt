@@ -4,7 +4,7 @@ ghost use Rattle.cd_base.specs.Told.{Got};
 ghost use Rattle.cd_base.specs.Memories.{SteadySinkView, SinkView};
 
 use crate::answers::Failed;
-use crate::counts::raised;
+use crate::counts::one_more;
 use crate::sink::Sink;
 use std::alloc::Global;
 use std::marker::Model;
@@ -66,7 +66,7 @@ impl Sink for SteadySink {
             ≡ record self.old { faults = one_more self.old.faults }) }
     {
         if self.bytes.extend_from_slice(piece).is_err() {
-            self.faults = raised(self.faults);
+            self.faults = one_more(self.faults);
             return Err(Failed);
         }
         Ok(piece.len())
@@ -146,15 +146,15 @@ impl Sink for MemorySink {
             }) }
     {
         let fails = self.fails.contains(&self.calls);
-        self.calls = raised(self.calls);
+        self.calls = one_more(self.calls);
         if fails {
-            self.faults = raised(self.faults);
+            self.faults = one_more(self.faults);
             return Err(Failed);
         }
         match self.sink.write(piece) {
             Ok(count) => Ok(count),
             Err(failed) => {
-                self.faults = raised(self.faults);
+                self.faults = one_more(self.faults);
                 Err(failed)
             }
         }

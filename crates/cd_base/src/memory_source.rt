@@ -5,7 +5,7 @@ ghost use Rattle.cd_base.specs.Told.{Gave, IsAtEnd};
 ghost use Rattle.cd_base.specs.Memories.{SourceView};
 
 use crate::answers::Failed;
-use crate::counts::raised;
+use crate::counts::one_more;
 use crate::source::Source;
 use std::marker::Model;
 
@@ -144,9 +144,9 @@ impl Source for MemorySource {
         ensures bound { ReadsAtMost result into.new }
     {
         let fails = self.fails.contains(&self.calls);
-        self.calls = raised(self.calls);
+        self.calls = one_more(self.calls);
         if fails {
-            self.faults = raised(self.faults);
+            self.faults = one_more(self.faults);
             return Err(Failed);
         }
         self.source.read(into)

@@ -4,7 +4,7 @@ ghost use Rattle.std.specs.Io.KnownBytes.{ReadConsumes, WriteAppends};
 ghost use Rattle.cd_base.specs.Counts.{one_more};
 
 use crate::answers::Failed;
-use crate::counts::raised;
+use crate::counts::one_more;
 use crate::sink::Sink;
 use crate::source::Source;
 use std::io::{Read, Write};
@@ -60,7 +60,7 @@ impl<R: Read> Source for StdSource<R> {
         match self.inner.read(into) {
             Ok(count) => Ok(count),
             Err(_) => {
-                self.faults = raised(self.faults);
+                self.faults = one_more(self.faults);
                 Err(Failed)
             }
         }
@@ -119,7 +119,7 @@ impl<W: Write> Sink for StdSink<W> {
         match self.inner.write(piece) {
             Ok(count) if 0 < count => Ok(count),
             _ => {
-                self.faults = raised(self.faults);
+                self.faults = one_more(self.faults);
                 Err(Failed)
             }
         }

@@ -1,7 +1,7 @@
 //! What no clause says: values from outside, printed texts, and that each call succeeds with ample memory.
 use crate::{
     ByteReader, ByteWriter, Crc, Failed, Hash256, Memory, MemorySink, MemorySource, ReadAllFault,
-    StdSink, StdSource, SteadySink, SteadySource, crc32c, from_be, from_le, raised, read_all,
+    StdSink, StdSource, SteadySink, SteadySource, crc32c, from_be, from_le, one_more, read_all,
     write_all,
 };
 use std::io;
@@ -83,7 +83,7 @@ impl Write for Sip {
             return Ok(0);
         };
         self.last = *first;
-        self.calls = raised(self.calls);
+        self.calls = one_more(self.calls);
         Ok(1)
     }
 
@@ -204,7 +204,7 @@ fn bytes_put_and_taken(rt: HostRuntime) -> Result<(), Fail> {
 fn numbers_and_orders(rt: HostRuntime) {
     assert!(rt; from_be(&[0xb5, 0xee, 0x9c, 0x72]) == 0xb5ee_9c72);
     assert!(rt; from_le(&[0x83, 0x92, 0x06, 0xe3]) == 0xe306_9283);
-    assert!(rt; raised(u64::MAX) == u64::MAX);
+    assert!(rt; one_more(u64::MAX) == u64::MAX);
     let mut low = [0xff; 32];
     low[0] = 0;
     assert!(rt; Hash256(low) < Hash256([1; 32]));

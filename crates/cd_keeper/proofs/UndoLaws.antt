@@ -11,7 +11,7 @@ use Rattle.cd_keeper.proofs.TableLaws.{same_table, same_key-equiv}
 use Rattle.cd_keeper.specs.NoKeyTwice.{same_key}
 use Rattle.cd_keeper.specs.Contents.{Table, put_all}
 use Rattle.cd_keeper.specs.Shown.{entry_of, entries_of}
-use Rattle.cd_keeper.specs.Undo.{put_back, undone, keys_back, noted}
+use Rattle.cd_keeper.specs.Undo.{put_back, undone, keys_back, with_replaced}
 
 -- the last replaced value is of a put below this number
 abbrev pub LastBelow : ℕ → List (ℕ × List ℕ) → Type 0
@@ -47,15 +47,15 @@ put_back-insert table key value old there =
     ∙ twice (same_key q key) (Some old) (Some value) (finite.get table q)
     ∙ same_value table key q (Some old) there))
 
-undone-noted : (table : Table) (keys : List (List ℕ)) (replaced : List (ℕ × List ℕ)) (key value : List ℕ) (old : Option (List ℕ)) → finite.get table key ≡ old → LastBelow (length keys) replaced → undone (finite.insert table key value) (key ∷ keys) (noted (length keys) old replaced) ≡ undone table keys replaced
-undone-noted table keys [] key value None is below = ap (λ t. undone t keys []) (remove-insert table key value is)
-undone-noted table keys (r ∷ replaced) key value None is below = rw (ne_eqb r.0 (length keys) (omega arith)) (ap (λ t. undone t keys (r ∷ replaced)) (remove-insert table key value is))
-undone-noted table keys replaced key value (Some old) is below = rw (eq-eqb (length keys) (length keys) refl) (ap (λ t. undone t keys replaced) (put_back-insert table key value old is))
+undone-with_replaced : (table : Table) (keys : List (List ℕ)) (replaced : List (ℕ × List ℕ)) (key value : List ℕ) (old : Option (List ℕ)) → finite.get table key ≡ old → LastBelow (length keys) replaced → undone (finite.insert table key value) (key ∷ keys) (with_replaced (length keys) old replaced) ≡ undone table keys replaced
+undone-with_replaced table keys [] key value None is below = ap (λ t. undone t keys []) (remove-insert table key value is)
+undone-with_replaced table keys (r ∷ replaced) key value None is below = rw (ne_eqb r.0 (length keys) (omega arith)) (ap (λ t. undone t keys (r ∷ replaced)) (remove-insert table key value is))
+undone-with_replaced table keys replaced key value (Some old) is below = rw (eq-eqb (length keys) (length keys) refl) (ap (λ t. undone t keys replaced) (put_back-insert table key value old is))
 
-noted-below : (n : ℕ) (old : Option (List ℕ)) (replaced : List (ℕ × List ℕ)) → LastBelow n replaced → LastBelow (n + 1) (noted n old replaced)
-noted-below n None [] below = tt
-noted-below n None (r ∷ replaced) below = omega arith
-noted-below n (Some old) replaced below = omega arith
+with_replaced-below : (n : ℕ) (old : Option (List ℕ)) (replaced : List (ℕ × List ℕ)) → LastBelow n replaced → LastBelow (n + 1) (with_replaced n old replaced)
+with_replaced-below n None [] below = tt
+with_replaced-below n None (r ∷ replaced) below = omega arith
+with_replaced-below n (Some old) replaced below = omega arith
 
 module _ {K : Type 0} (bytes : K → List ℕ) where
   -- some puts led from one table to another, and what they replaced leads back
@@ -73,11 +73,11 @@ module _ {K : Type 0} (bytes : K → List ℕ) where
   keys_back-push : (puts : List (K × Vec ℕ Global)) (e : K × Vec ℕ Global) → keys_back bytes (puts ++ e ∷ []) ≡ bytes e.0 ∷ keys_back bytes puts
   keys_back-push puts e = ap reverse (map-append (λ e. bytes e.0) puts (e ∷ [])) ∙ reverse-append (map (λ e. bytes e.0) puts) (bytes e.0 ∷ [])
 
-  pub put-more : (old now : Table) (puts : List (K × Vec ℕ Global)) (replaced : List (ℕ × List ℕ)) (e : K × Vec ℕ Global) → IsPut old puts now replaced → IsPut old (puts ++ e ∷ []) (finite.insert now (bytes e.0) e.1.items) (noted (length puts) (finite.get now (bytes e.0)) replaced)
+  pub put-more : (old now : Table) (puts : List (K × Vec ℕ Global)) (replaced : List (ℕ × List ℕ)) (e : K × Vec ℕ Global) → IsPut old puts now replaced → IsPut old (puts ++ e ∷ []) (finite.insert now (bytes e.0) e.1.items) (with_replaced (length puts) (finite.get now (bytes e.0)) replaced)
   put-more old now puts replaced e so_far = record {
     put = ap (λ t. finite.insert t (bytes e.0) e.1.items) so_far.put
         ∙ sym (ap (put_all old) (map-append (entry_of bytes) puts (e ∷ [])) ∙ fold-append (λ t e. finite.insert t e.0 e.1) old (entries_of bytes puts) (entry_of bytes e ∷ []));
     back = rw (keys_back-push puts e, ← length-keys_back puts)
-        (undone-noted now (keys_back bytes puts) replaced (bytes e.0) e.1.items _ refl (subst (λ n. LastBelow n replaced) (sym (length-keys_back puts)) so_far.below) ∙ so_far.back);
-    below = subst (λ n. LastBelow n (noted (length puts) (finite.get now (bytes e.0)) replaced)) (sym (length-append puts (e ∷ []))) (noted-below (length puts) (finite.get now (bytes e.0)) replaced so_far.below);
+        (undone-with_replaced now (keys_back bytes puts) replaced (bytes e.0) e.1.items _ refl (subst (λ n. LastBelow n replaced) (sym (length-keys_back puts)) so_far.below) ∙ so_far.back);
+    below = subst (λ n. LastBelow n (with_replaced (length puts) (finite.get now (bytes e.0)) replaced)) (sym (length-append puts (e ∷ []))) (with_replaced-below (length puts) (finite.get now (bytes e.0)) replaced so_far.below);
   }

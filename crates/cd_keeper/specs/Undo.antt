@@ -25,9 +25,9 @@ abbrev pub latest : List (ℕ × Vec ℕ Global) → List (ℕ × List ℕ)
 latest replaced = reverse (map (λ old. (old.0, old.1.items)) replaced)
 
 -- the list after the put of this number, which replaced a value or none
-abbrev pub noted : ℕ → Option (List ℕ) → List (ℕ × List ℕ) → List (ℕ × List ℕ)
-noted at None replaced = replaced
-noted at (Some value) replaced = (at, value) ∷ replaced
+abbrev pub with_replaced : ℕ → Option (List ℕ) → List (ℕ × List ℕ) → List (ℕ × List ℕ)
+with_replaced at None replaced = replaced
+with_replaced at (Some value) replaced = (at, value) ∷ replaced
 
 -- the latest value was not replaced by the put of this number
 abbrev pub IsOther : ℕ → List (ℕ × List ℕ) → Type 0

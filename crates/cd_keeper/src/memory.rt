@@ -12,7 +12,7 @@ use crate::fault::KeepFault;
 use crate::keeper::Keeper;
 use crate::steady::SteadyKeeper;
 use crate::tables::Tables;
-use cd_base::{Failed, Hash256, Memory, raised};
+use cd_base::{Failed, Hash256, Memory, one_more};
 use std::alloc::Global;
 use std::marker::Model;
 
@@ -174,9 +174,9 @@ impl MemoryKeeper {
             }) }
     {
         let fails = self.fails.contains(&self.calls);
-        self.calls = raised(self.calls);
+        self.calls = one_more(self.calls);
         if fails {
-            self.faults = raised(self.faults);
+            self.faults = one_more(self.faults);
             return Err(Failed);
         }
         Ok(())
@@ -197,7 +197,7 @@ impl MemoryKeeper {
               reads = one_more self.old.reads;
             }) }
     {
-        self.reads = raised(self.reads);
+        self.reads = one_more(self.reads);
         self.begin_call()
     }
 }

@@ -7,7 +7,7 @@ use crate::batch::Batch;
 use crate::fault::KeepFault;
 use crate::keeper::Keeper;
 use crate::tables::Tables;
-use cd_base::{Hash256, Memory, raised};
+use cd_base::{Hash256, Memory, one_more};
 use std::alloc::Global;
 use std::marker::Model;
 
@@ -99,7 +99,7 @@ impl Keeper for SteadyKeeper {
     ghost reads = { λ keeper. keeper.reads };
 
     fn get_cell(&mut self, key: &Hash256) -> Result<Option<Vec<u8>>, KeepFault> {
-        self.reads = raised(self.reads);
+        self.reads = one_more(self.reads);
         Ok(self.tables.get_cell(key)?)
     }
 
@@ -107,12 +107,12 @@ impl Keeper for SteadyKeeper {
         &mut self,
         after: Option<Hash256>,
     ) -> Result<Option<(Hash256, Vec<u8>)>, KeepFault> {
-        self.reads = raised(self.reads);
+        self.reads = one_more(self.reads);
         Ok(self.tables.next_cell(after)?)
     }
 
     fn get_desc(&mut self, key: &[u8; 80]) -> Result<Option<Vec<u8>>, KeepFault> {
-        self.reads = raised(self.reads);
+        self.reads = one_more(self.reads);
         Ok(self.tables.get_desc(key)?)
     }
 
@@ -120,13 +120,13 @@ impl Keeper for SteadyKeeper {
         &mut self,
         after: Option<[u8; 80]>,
     ) -> Result<Option<([u8; 80], Vec<u8>)>, KeepFault> {
-        self.reads = raised(self.reads);
+        self.reads = one_more(self.reads);
         Ok(self.tables.next_desc(after)?)
     }
 
     fn apply(&mut self, batch: &Batch) -> Result<(), KeepFault> {
         self.tables.apply(batch)?;
-        self.batches = raised(self.batches);
+        self.batches = one_more(self.batches);
         Ok(())
     }
 }

@@ -3,7 +3,7 @@ ghost use Rattle.std.specs.Prelude.{◌≡◌, IsTrue, ◌<◌, ◌++◌, ◌∷
 ghost use Rattle.std.specs.Option.{option_map, option_to_list};
 ghost use Rattle.cd_keeper.specs.Contents.{next_entry, is_above, put_all, drop_all};
 ghost use Rattle.cd_keeper.specs.Shown.{entry_of, entries_of, above};
-ghost use Rattle.cd_keeper.specs.Undo.{put_back, undone, keys_back, latest, noted, IsOther};
+ghost use Rattle.cd_keeper.specs.Undo.{put_back, undone, keys_back, latest, with_replaced, IsOther};
 ghost use Rattle.std.specs.FinMap as finite;
 
 use cd_base::{Hash256, Memory};
@@ -155,7 +155,7 @@ impl<K: Key> Table<K> {
     ) -> Result<(), Memory>
         ensures put { OnOk result (self.new ≡ finite.insert self.old (K.bytes key) value.now) }
         ensures keeps { OnOk result (latest replaced.new.items
-            ≡ noted at (finite.get self.old (K.bytes key)) (latest replaced.old.items)) }
+            ≡ with_replaced at (finite.get self.old (K.bytes key)) (latest replaced.old.items)) }
         ensures err { OnErr result (self.new ≡ self.old) }
         ensures none { OnErr result (replaced.new.items ≡ replaced.old.items) }
     {
