@@ -1,9 +1,10 @@
 #!/usr/bin/env python3
 """Runs the built programs over bags of several sizes, and prints processor seconds, cells a second and peak memory.
 
-    bench/run.py [--cells N ..] [--low BYTES] [--high BYTES] [--times N]
+    bench/run.py [--cells N ..] [--low BYTES] [--high BYTES] [--times N] [--against FOLDER]
 
-At the top of the repository, after `rt ci` or `rt run` left the programs in crates/*/out. Each row is the least of N runs
+At the top of the repository, after `rt ci` or `rt run` left the programs in crates/*/out. FOLDER has programs of the same
+names, as an earlier change built them, and each is run beside the one of this change, in turn. Each row is the least of N runs
 (3 where it isn't given), since what else the machine does only adds. A peak under some 15 MB is that of Python, which
 starts the programs. It is no part of the gate.
 """
@@ -39,21 +40,27 @@ def main():
     words.add_argument("--low", type=int, default=0)
     words.add_argument("--high", type=int, default=60)
     words.add_argument("--times", type=int, default=3)
+    words.add_argument("--against", type=pathlib.Path)
     given = words.parse_args()
-    print(f"{'work':8}{'cells':>10}{'bytes':>12}{'seconds':>10}{'cells/s':>12}{'peak MB':>10}")
+    print(f"{'work':12}{'cells':>10}{'bytes':>12}{'seconds':>10}{'cells/s':>12}{'peak MB':>10}")
     for cells in given.cells:
         with tempfile.NamedTemporaryFile() as bag:
             make = [sys.executable, TOP / "bench/make_bag.py", str(cells), "--low", str(given.low), "--high", str(given.high)]
             subprocess.run(make, stdout=bag, check=True)
             length = os.path.getsize(bag.name)
             for name, crate, options in WORK:
-                program = TOP / "crates" / crate / "out" / crate
-                if not program.is_file():
-                    continue
-                runs = [measured(str(program), options, bag.name) for _ in range(given.times)]
-                seconds = min(run[0] for run in runs)
-                peak = min(run[1] for run in runs) / 1000
-                print(f"{name:8}{cells:10}{length:12}{seconds:10.3f}{cells / max(seconds, 0.001):12.0f}{peak:10.0f}", flush=True)
+                programs = {name: TOP / "crates" / crate / "out" / crate}
+                if given.against:
+                    programs[f"{name} was"] = given.against / crate
+                programs = {row: str(program) for row, program in programs.items() if program.is_file()}
+                runs = {row: [] for row in programs}
+                for _ in range(given.times):
+                    for row, program in programs.items():
+                        runs[row].append(measured(program, options, bag.name))
+                for row in programs:
+                    seconds = min(run[0] for run in runs[row])
+                    peak = min(run[1] for run in runs[row]) / 1000
+                    print(f"{row:12}{cells:10}{length:12}{seconds:10.3f}{cells / max(seconds, 0.001):12.0f}{peak:10.0f}", flush=True)
 
 
 main()

@@ -3,27 +3,26 @@ use Rattle.std.proofs.Common.{◌≡◌, ℕ, ◌<◌, Bool, true, false, true�
 use Rattle.std.specs.Prelude.{find}
 use Rattle.std.specs.Option.{option_map}
 use Rattle.std.specs.List.{list_any}
-use Rattle.std.specs.Ordering.{is_eq}
-use Rattle.std.specs.BTreeMap.{BTreeMap, get}
 use Rattle.std.proofs.lemmas.List.{take_more, map-append, get_or_default, get_or-map, length-map, length-take}
 use Rattle.std.proofs.lemmas.List.Elements.{Contains-append_left, Contains-append_right}
 use Rattle.cd_base.specs.declared.hash.Hash256.{Hash256}
+use Rattle.cd_cell.specs.declared.index.Index.{Index}
 use Rattle.cd_cell.specs.declared.info.ChildInfo.{ChildInfo}
 use Rattle.cd_cell.specs.declared.new_cell.NewCell.{NewCell}
 use Rattle.cd_cell.specs.FaceView.{FaceView}
+use Rattle.cd_cell.specs.PreparedView.{PreparedView}
 use Rattle.cd_cell.specs.Infos.{no_hash}
 use Rattle.cd_cell.specs.GoodFace.{IsGoodFace}
 use Rattle.cd_cell.specs.Tree.{Tree, cell, Trees, no_trees, tree_and, subtrees, subtrees_of_all, info_of, face_of, rep_of, IsWellFormed, AreWellFormed}
 use Rattle.cd_cell.specs.Equality.{same_hash, same_hash-Decides}
 use Rattle.cd_cell.specs.Bags.{root_trees, IsBag}
-use Rattle.cd_cell.specs.Export.{hash_cmp, distinct_cells, AreClashFree, IsClashFree}
+use Rattle.cd_cell.specs.Export.{distinct_cells, AreClashFree, IsClashFree}
 use Rattle.cd_cell.specs.Listings.{no_cell, new_cell_of, listed_at, IsValid}
 use Rattle.cd_cell.proofs.Subtrees.{Contains-first, Contains-later, Contains-cases, Contains-nil, Contains-map, Contains-mapped, well_formed-subtree, length-infos_of, IsGoodFace-face_of, flat_map-listed, subtree-itself}
 use Rattle.cd_cell.proofs.BagLaws.{well_formed-bag_trees, clash_free-bag_trees}
 use Rattle.cd_cell.proofs.ExportOrder.{AreDistinct-distinct_cells, Contains-distinct_cells}
 use Rattle.cd_update.specs.Pairing.{beside, wanted_hashes, AreOf}
 use Rattle.cd_cell.specs.Indexes.{IsIndex}
-use Rattle.cd_cell.proofs.IndexLaws.{IsIndex-pushed}
 use Rattle.cd_prepare.specs.States.{IsWhole}
 use Rattle.bag_faults.specs.OldStates.{face_in, IsIndexed, state_of, IsState}
 
@@ -76,21 +75,24 @@ face_in-place H root cells valid place hash in' is =
     is
 
 -- what an index has is the place of a listed cell
-pub found-place : (places : BTreeMap Hash256 ℕ) (cells : List NewCell) → IsIndexed places cells → (hash : Hash256) (place : ℕ) → get hash_cmp places hash ≡ Some place → (place < length cells) × ((listed_at cells place).hash ≡ hash)
-found-place places cells index hash place e =
-    let at = index.found hash place e in
+pub found-place : (cells : List NewCell) (hash : Hash256) (place : ℕ)
+    → (place < length (map (λ (c : NewCell). c.hash) cells)) × (get_or (map (λ (c : NewCell). c.hash) cells) place no_hash ≡ hash)
+    → (place < length cells) × ((listed_at cells place).hash ≡ hash)
+found-place cells hash place at =
     let in' : place < length cells = omega (arith, at.0, length-map cells (λ (c : NewCell). c.hash)) in
     (in', sym (get_or-map (λ (c : NewCell). c.hash) cells place no_cell no_hash in') ∙ at.1)
 
 -- one cell more, which stands behind the others
-pub IsIndexed-more : (old new : BTreeMap Hash256 ℕ) (cells : List NewCell) (place : ℕ) (next : NewCell) → next ≡ get_or cells place next → place < length cells → ((q : Hash256) → get hash_cmp new q ≡ (if is_eq (hash_cmp next.hash q) then Some place else get hash_cmp old q)) → IsIndexed old (take place cells) → IsIndexed new (take (place + 1) cells)
-IsIndexed-more old new cells place next is in' updates index =
+pub IsIndexed-more : (old new : Index) (cells : List NewCell) (place : ℕ) (next : NewCell) → next ≡ get_or cells place next → place < length cells
+    → ((keys : List Hash256) → IsIndex old keys → place ≡ length keys → IsIndex new (keys ++ next.hash ∷ []))
+    → IsIndexed old (take place cells) → IsIndexed new (take (place + 1) cells)
+IsIndexed-more old new cells place next is in' pushed index =
     let hash : NewCell → Hash256 = λ c. c.hash in
     let more : map hash (take place cells) ++ next.hash ∷ [] ≡ map hash (take (place + 1) cells) =
     sym (map-append hash (take place cells) (next ∷ [])) ∙ ap (λ c. map hash (take place cells ++ c ∷ [])) is ∙ ap (map hash) (sym (take_more cells place next in'))
     in
     let count : place ≡ length (map hash (take place cells)) = simp (length-map, length-take) (omega arith) in
-    subst (IsIndex (record { places = new })) more (IsIndex-pushed (record { places = old }) (record { places = new }) next.hash place updates (map hash (take place cells)) index count)
+    subst (IsIndex new) more (pushed (map hash (take place cells)) index count)
 
 -- ---- a state
 
@@ -107,9 +109,9 @@ module _ (H : List ℕ → Hash256) where
         (well_formed-good t (λ s h. good s (Contains-append_left (subtrees t) (subtrees_of_all ts) s h)), well_formed-all ts (λ s h. good s (Contains-append_right (subtrees t) (subtrees_of_all ts) s h)))
 
   -- all cells of a bag's one tree are a state
-  pub IsState-whole : (cells : List FaceView) (refs : List (List ℕ)) (roots : List ℕ) → IsBag H cells refs roots → (t : Tree) → root_trees cells refs roots ≡ t ∷ [] → (root : ChildInfo) (listed : List NewCell) → IsWhole H t root listed → IsState H root listed
-  IsState-whole cells refs roots bag t only root listed whole =
-      let is : t ≡ state_of H root listed = sym whole.stands in
+  pub IsState-whole : (cells : List FaceView) (refs : List (List ℕ)) (roots : List ℕ) → IsBag H cells refs roots → (t : Tree) → root_trees cells refs roots ≡ t ∷ [] → (value : PreparedView) → IsWhole H t value.root value.cells → IsState H value
+  IsState-whole cells refs roots bag t only value whole =
+      let is : t ≡ state_of H value = sym whole.stands in
       let well : IsWellFormed H t = well_formed-bag_trees H cells refs roots bag t (subst (λ ts. Contains ts t) (sym only) (Contains-first t [])) in
       let clear : IsClashFree H t = subst (AreClashFree H) only (clash_free-bag_trees H cells refs roots bag) in
       record {
@@ -119,9 +121,12 @@ module _ (H : List ℕ → Hash256) where
         all = whole.cells_are ∙ ap (λ x. map (new_cell_of H) (distinct_cells H x)) is;
       }
 
-  module _ (root : ChildInfo) (cells : List NewCell) (state : IsState H root cells) where
+  module _ (value : PreparedView) (state : IsState H value) where
     abbrev t : Tree
-    t = state_of H root cells
+    t = state_of H value
+
+    abbrev cells : List NewCell
+    cells = value.cells
 
     -- each cell of the state is found by its hash
     face_in-subtree : (s : Tree) → Contains (subtrees t) s → face_in cells (rep_of H s) ≡ Some (face_of H s)
@@ -138,7 +143,7 @@ module _ (H : List ℕ → Hash256) where
         refl
 
     -- the faces that are found for the wanted hashes are those of the state
-    pub AreOf-state : root.mask ≡ 0 → (u : Tree) (faces : List (Option FaceView)) → faces ≡ map (face_in cells) (wanted_hashes H u) → AreOf H t u root faces
+    pub AreOf-state : value.root.mask ≡ 0 → (u : Tree) (faces : List (Option FaceView)) → faces ≡ map (face_in cells) (wanted_hashes H u) → AreOf H t u value.root faces
     AreOf-state plain u faces are = record {
       well = well_formed-good t state.good;
       clear = state.clear;

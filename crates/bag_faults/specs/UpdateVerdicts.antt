@@ -1,5 +1,6 @@
--- What is said of bytes as an update of an old state.
+-- Trusted: what is said of bytes, and of the bytes of a line, as an update of an old state.
 use Rattle.std.specs.Prelude.{◌≡◌, ℕ, List, [], ◌∷◌, length, Some, Ok}
+use Rattle.hex.specs.Hex.{decode_of}
 use Rattle.cd_base.specs.declared.hash.Hash256.{Hash256}
 use Rattle.cd_cell.specs.Tree.{Tree, rep_of}
 use Rattle.cd_cell.specs.Export.{export_cmp, sorted_distinct}
@@ -26,10 +27,15 @@ module _ (H : List ℕ → Hash256) (t : Tree) where
   -- why bytes are no update of an old tree: they are no bag, or its trees are no update, or this isn't prepared
   abbrev pub IsWhyNoUpdate : List ℕ → Refusal → Type 0
   IsWhyNoUpdate bytes (Bag fault) = bag_fault H bytes ≡ Some fault
-  IsWhyNoUpdate bytes (Update fault) = (trees : List Tree) × Spells H bytes trees × (fault_of_trees H trees ≡ Some fault)
+  IsWhyNoUpdate bytes (Update fault) =
+      (trees : List Tree) × Spells H bytes trees × (fault_of_trees H trees ≡ Some fault)
   IsWhyNoUpdate bytes (Prepare fault) = (u : Tree) × Spells H bytes (u ∷ []) × (update_fault H u t ≡ Some fault)
 
   -- what is said of bytes over an old tree is so
   abbrev pub IsTrueOver : List ℕ → UpdateVerdict → Type 0
   IsTrueOver bytes (Good shown new root) = (u : Tree) × Spells H bytes (u ∷ []) × IsUpdated u shown new root
   IsTrueOver bytes (Refused refusal) = IsWhyNoUpdate bytes refusal
+
+  -- the same of the bytes that a line has in hexadecimal
+  abbrev pub IsTrueOverLine : List ℕ → UpdateVerdict → Type 0
+  IsTrueOverLine line verdict = (bytes : List ℕ) × (decode_of line ≡ Ok bytes) × IsTrueOver bytes verdict

@@ -1,15 +1,20 @@
-ghost use Rattle.std.specs.Prelude.{◌≡◌, ◌≢◌, ◌↔◌, [], ◌∷◌, Some, map, string_bytes, codes};
+ghost use Rattle.std.specs.Prelude.{◌≡◌, ◌≢◌, ◌↔◌, ◌⊎◌, [], None, Some, map, string_bytes, codes};
+ghost use Rattle.bag_faults.specs.Words.{IsWord, AreWords, AsksForExport, AsksForHelp};
 
 /// What the program is asked for.
 #[derive(Clone, Copy, Debug, PartialEq, Eq)]
 pub enum Mode {
-    /// A line for each line of standard input.
+    /// A line for each line of the input, which has a bag.
     Lines,
-    /// One line for all of standard input.
+    /// One line for the input, which is a bag.
     Raw,
-    /// The export text of the one root, for all of standard input.
+    /// The export text of the one root of the bag that the input is.
     Export,
-    /// A state in the first line of standard input, and a line for each line behind it, which has an update.
+    /// For each line of the input, which has a bag, a line for each root.
+    Levels,
+    /// A line for each root of the bag that the input is.
+    RawLevels,
+    /// A state in the first line of the input, and a line for each line behind it, which has an update.
     Updates,
     /// The text of `--help`.
     Help,
@@ -22,10 +27,13 @@ Says of bags of cells what they have, or why they are refused.
     bag_faults                 reads a bag in hexadecimal from each line of standard input
     bag_faults --raw           reads one bag from standard input, as bytes
     bag_faults --raw --export  the same, but writes the export text of the bag's one root
+    bag_faults --levels        reads a bag in hexadecimal from each line, and prints what each of its roots shows
+    bag_faults --raw --levels  the same for one bag from standard input, as bytes
     bag_faults --updates       reads a state from the first line, and from each other line a Merkle update of it
     bag_faults --help          prints this text
 
-For each bag it prints a line: `ok roots N cells M`, or the first fault with its fields. For an update it prints
+For each bag it prints a line: `ok roots N cells M`, or the first fault with its fields. With --levels there is a line
+for each root instead: `mask M hashes H0 H1 H2 H3 depths D0 D1 D2 D3`, at the levels 0 to 3. For an update it prints
 `ok shown N new M root HASH`, or why it isn't prepared: the shown cells of the state, and the new ones.
 ";
 
@@ -33,20 +41,18 @@ impl Mode {
     /// The mode that these words ask for; `None` where they are no words of the program.
     pub fn of(words: &[String]) -> Option<Mode>
         ensures lines { (result ≡ Some Mode.Lines) ↔ (words.now ≡ []) }
-        ensures raw { (result ≡ Some Mode.Raw) ↔ (map string_bytes words.now ≡ codes "--raw" ∷ []) }
-        ensures updates { (result ≡ Some Mode.Updates) ↔ (map string_bytes words.now ≡ codes "--updates" ∷ []) }
+        ensures raw { (result ≡ Some Mode.Raw) ↔ IsWord (codes "--raw") (map string_bytes words.now) }
+        ensures export { (result ≡ Some Mode.Export) ↔ AsksForExport (map string_bytes words.now) }
+        ensures levels { (result ≡ Some Mode.Levels) ↔ IsWord (codes "--levels") (map string_bytes words.now) }
+        ensures raw_levels { (result ≡ Some Mode.RawLevels)
+            ↔ AreWords (codes "--raw") (codes "--levels") (map string_bytes words.now) }
+        ensures updates { (result ≡ Some Mode.Updates) ↔ IsWord (codes "--updates") (map string_bytes words.now) }
+        ensures help { (result ≡ Some Mode.Help) ↔ AsksForHelp (map string_bytes words.now) }
     {
         match words {
             [] => Some(Mode::Lines),
             [word] => Mode::of_word(word.as_str()),
-            [first, second] => match (
-                Mode::of_word(first.as_str()),
-                Mode::of_word(second.as_str()),
-            ) {
-                (Some(Mode::Raw), Some(Mode::Export)) => Some(Mode::Export),
-                (Some(Mode::Export), Some(Mode::Raw)) => Some(Mode::Export),
-                _ => None,
-            },
+            [first, second] => Mode::of_words(first.as_str(), second.as_str()),
             _ => None,
         }
     }
@@ -54,50 +60,35 @@ impl Mode {
     fn of_word(word: &str) -> Option<Mode>
         ensures lines { result ≢ Some Mode.Lines }
         ensures raw { (result ≡ Some Mode.Raw) ↔ (word.now ≡ codes "--raw") }
+        ensures export { (result ≡ Some Mode.Export) ↔ (word.now ≡ codes "--export") }
+        ensures levels { (result ≡ Some Mode.Levels) ↔ (word.now ≡ codes "--levels") }
+        ensures raw_levels { result ≢ Some Mode.RawLevels }
         ensures updates { (result ≡ Some Mode.Updates) ↔ (word.now ≡ codes "--updates") }
+        ensures help { (result ≡ Some Mode.Help) ↔ ((word.now ≡ codes "--help") ⊎ (word.now ≡ codes "-h")) }
     {
         match word {
             "--raw" => Some(Mode::Raw),
             "--export" => Some(Mode::Export),
+            "--levels" => Some(Mode::Levels),
             "--updates" => Some(Mode::Updates),
             "--help" | "-h" => Some(Mode::Help),
             _ => None,
         }
     }
-}
 
-#[cfg(test)]
-mod tests {
-    use super::*;
-    use std::alloc::Global;
-    use std::test::Fail;
-
-    fn mode(alloc: Global, word: &str) -> Result<Option<Mode>, Fail> {
-        let mut words = Vec::new(alloc);
-        words.push(String::from_str(alloc, word)?)?;
-        Ok(Mode::of(&words))
-    }
-
-    fn two(alloc: Global, first: &str, second: &str) -> Result<Option<Mode>, Fail> {
-        let mut words = Vec::new(alloc);
-        words.push(String::from_str(alloc, first)?)?;
-        words.push(String::from_str(alloc, second)?)?;
-        Ok(Mode::of(&words))
-    }
-
-    #[test]
-    fn words_are_known_or_not(rt: HostRuntime) -> Result<(), Fail> {
-        let alloc = rt.alloc();
-        assert_eq!(rt; Mode::of(&[]), Some(Mode::Lines));
-        assert_eq!(rt; mode(alloc, "--raw")?, Some(Mode::Raw));
-        assert_eq!(rt; mode(alloc, "--export")?, Some(Mode::Export));
-        assert_eq!(rt; mode(alloc, "--updates")?, Some(Mode::Updates));
-        assert_eq!(rt; mode(alloc, "--help")?, Some(Mode::Help));
-        assert_eq!(rt; mode(alloc, "raw")?, None);
-        assert_eq!(rt; mode(alloc, "")?, None);
-        assert_eq!(rt; two(alloc, "--raw", "--export")?, Some(Mode::Export));
-        assert_eq!(rt; two(alloc, "--export", "--raw")?, Some(Mode::Export));
-        assert_eq!(rt; two(alloc, "--raw", "--raw")?, None);
-        Ok(())
+    fn of_words(first: &str, second: &str) -> Option<Mode>
+        ensures export { (result ≡ Some Mode.Export)
+            ↔ (((first.now ≡ codes "--raw") × (second.now ≡ codes "--export"))
+            ⊎ ((first.now ≡ codes "--export") × (second.now ≡ codes "--raw"))) }
+        ensures levels { (result ≡ Some Mode.RawLevels)
+            ↔ (((first.now ≡ codes "--raw") × (second.now ≡ codes "--levels"))
+            ⊎ ((first.now ≡ codes "--levels") × (second.now ≡ codes "--raw"))) }
+        ensures only { (result ≡ None) ⊎ (result ≡ Some Mode.Export) ⊎ (result ≡ Some Mode.RawLevels) }
+    {
+        match (first, second) {
+            ("--raw", "--export") | ("--export", "--raw") => Some(Mode::Export),
+            ("--raw", "--levels") | ("--levels", "--raw") => Some(Mode::RawLevels),
+            _ => None,
+        }
     }
 }

@@ -1,15 +1,12 @@
 -- Faces filled from the last cell downwards, with the first fault on that way.
-use Rattle.std.proofs.Common.{◌≡◌, ℕ, zero, suc, ◌+◌, ◌<◌, ◌≤◌, List, [], ◌∷◌, length, replicate, get_or, set, drop, map, Some, None, refl, sym, ap, ap₂, subst, ◌∙◌, ⊎_elim, arith}
+use Rattle.std.proofs.Common.{◌≡◌, ℕ, zero, suc, ◌+◌, ◌<◌, ◌≤◌, List, [], ◌∷◌, length, replicate, get_or, set, drop, map, Some, None, refl, sym, ap, ap₂, ◌∙◌, arith}
 use Rattle.std.specs.Option.{option_or}
-use Rattle.std.proofs.lemmas.Bool.{cases_lt}
 use Rattle.std.proofs.lemmas.List.{length-map, get_or-map, same_lists, drop_all, drop_more, drop-set, length-set, get_or-set_other}
-use Rattle.std.proofs.lemmas.Grind.{get_or-set_at}
 use Rattle.cd_base.specs.declared.hash.Hash256.{Hash256}
 use Rattle.cd_cell.specs.declared.info.ChildInfo.{ChildInfo}
 use Rattle.cd_cell.specs.FaceView.{FaceView}
 use Rattle.cd_cell.specs.Levels.{info_of_face}
 use Rattle.cd_cell.specs.CellFaults.{no_info}
-use Rattle.cd_cell.specs.GoodFace.{IsGoodFace}
 use Rattle.cd_cell.specs.Tree.{info_of}
 use Rattle.cd_cell.specs.Unfolding.{Entry, no_tree, behind, face_of_entry, infos_from, faces_from}
 use Rattle.cd_cell.specs.Bags.{no_face, face_at}
@@ -87,7 +84,6 @@ module _ (H : List ℕ → Hash256) where
     pub long_infos : length infos ≡ length ts
     pub faces_are : drop left faces ≡ faces_from H left (drop left (entries_of_texts ts))
     pub infos_are : drop left infos ≡ infos_from H left (drop left (entries_of_texts ts))
-    pub good : (k : ℕ) → left ≤ k → k < length ts → IsGoodFace (face_at faces k)
     pub bare : (k : ℕ) → k < left → (face_at faces k).kids ≡ []
     pub sound : cells_fault H left (drop left ts) (drop left faces) ≡ None
 
@@ -101,7 +97,6 @@ module _ (H : List ℕ → Hash256) where
         long_infos = long-infos;
         faces_are = drop_all left faces (omega arith) ∙ sym (faces_from-end H left) ∙ ap (faces_from H left) (sym none);
         infos_are = drop_all left infos (omega arith) ∙ sym (infos_from-end H left) ∙ ap (infos_from H left) (sym none);
-        good = λ k from below. absurd (omega (arith, from, below));
         bare = bare;
         sound = ap (λ (xs : List Text). cells_fault H left xs (drop left faces)) (drop_all left ts (omega arith)) ∙ cells_fault-nil left (drop left faces);
       }
@@ -146,21 +141,14 @@ module _ (H : List ℕ → Hash256) where
         cells_fault-from i 0 i ts (faces_from H 0 es) e (let same : 0 + i ≡ i = omega arith in same)
         (ap (λ fs. cells_fault H i (drop i ts) fs) (drop-faces_from H i es ∙ sym faces-more) ∙ fault-more ∙ found)
 
-    pub filled_more : cell_fault H i t face ≡ None → IsGoodFace face → AreFilled ts i (set faces i face) (set infos i (info_of_face H face))
-    filled_more none good =
+    pub filled_more : cell_fault H i t face ≡ None → AreFilled ts i (set faces i face) (set infos i (info_of_face H face))
+    filled_more none =
         record {
           within = omega (arith, below);
           long_faces = length-set faces i face ∙ so_far.long_faces;
           long_infos = length-set infos i (info_of_face H face) ∙ so_far.long_infos;
           faces_are = faces-more;
           infos_are = ap (λ f. drop i (set infos i (info_of_face H f))) face-here ∙ infos_from-set H i es infos t.entry in-entries (so_far.long_infos ∙ sym (length-entries ts)) infos-behind;
-          good =
-              λ k from in'.
-              ⊎_elim
-              (λ later. subst IsGoodFace (sym (get_or-set_other faces i k face no_face (λ (same : k ≡ i). omega (arith, later, same)))) (so_far.good k (omega (arith, later, next)) in'))
-              (λ early.
-              subst IsGoodFace (sym (get_or-set_at faces i k face no_face (omega (arith, from, early)) (omega (arith, so_far.long_faces, below)))) good)
-              (cases_lt i k);
           bare = λ k early. ap (λ (f : FaceView). f.kids) (get_or-set_other faces i k face no_face (λ (same : k ≡ i). omega (arith, early, same))) ∙ so_far.bare k (omega (arith, early));
           sound = fault-more ∙ none;
         }

@@ -1,10 +1,11 @@
 -- Bytes that begin with the hashes and depths of a cell at its significant levels.
-use Rattle.std.proofs.Common.{◌≡◌, ◌≢◌, ℕ, Bool, Bor, Option, Some, None, MatchOption, true, false, List, [], ◌∷◌, ◌++◌, flat_map, refl, sym, ap, ◌∙◌, append_assoc, append-nil}
+use Rattle.std.proofs.Common.{◌≡◌, ◌≢◌, ℕ, Bool, Bor, Option, Some, None, MatchOption, true, false, List, [], ◌∷◌, ◌++◌, flat_map, refl, sym, ap, subst, ◌∙◌, append_assoc, append-nil}
 use Rattle.std.specs.Prelude.{if◌then◌else◌}
 use Rattle.std.specs.List.{filter}
 use Rattle.std.proofs.lemmas.List.{append_cancel_left}
 use Rattle.cd_cell.specs.declared.info.ChildInfo.{ChildInfo}
 use Rattle.cd_cell.specs.Masks.{is_significant}
+use Rattle.cd_boc_read.specs.Views.{IsBehind}
 use Rattle.cd_cell.specs.StoredText.{hash_text, depth_text, stored_hashes, stored_depths}
 
 -- what f makes of the elements that pass, element by element
@@ -49,28 +50,48 @@ pub joined : (s a q t r : List ℕ) → s ≡ a ++ t → t ≡ q ++ r → s ≡ 
 joined s a q t r at more = at ∙ ap (λ (x : List ℕ). a ++ x) more ∙ sym (append_assoc a q r)
 
 -- bytes that begin with four pieces, piece by piece
-module _ (whole a b c d s : List ℕ) (is : whole ≡ a ++ (b ++ (c ++ d))) where
+module _ (a b c d s : List ℕ) where
+  abbrev whole : List ℕ
+  whole = a ++ (b ++ (c ++ d))
+
   pub first_differs : ((r : List ℕ) → s ≢ a ++ r) → (r : List ℕ) → s ≢ whole ++ r
-  first_differs none r at = not_first s a (b ++ (c ++ d)) none r (at ∙ ap (λ (x : List ℕ). x ++ r) is)
+  first_differs none r at = not_first s a (b ++ (c ++ d)) none r at
 
   module _ (t : List ℕ) (first : s ≡ a ++ t) where
     pub second_differs : ((r : List ℕ) → t ≢ b ++ r) → (r : List ℕ) → s ≢ whole ++ r
-    second_differs none r at = not_later s a (b ++ (c ++ d)) t first (not_first t b (c ++ d) none) r (at ∙ ap (λ (x : List ℕ). x ++ r) is)
+    second_differs none r at = not_later s a (b ++ (c ++ d)) t first (not_first t b (c ++ d) none) r at
 
     module _ (u : List ℕ) (second : t ≡ b ++ u) where
       pub third_differs : ((r : List ℕ) → u ≢ c ++ r) → (r : List ℕ) → s ≢ whole ++ r
-      third_differs none r at = not_later s a (b ++ (c ++ d)) t first (not_later t b (c ++ d) u second (not_first u c d none)) r (at ∙ ap (λ (x : List ℕ). x ++ r) is)
+      third_differs none r at = not_later s a (b ++ (c ++ d)) t first (not_later t b (c ++ d) u second (not_first u c d none)) r at
 
       module _ (v : List ℕ) (third : u ≡ c ++ v) where
         fourth_differs : ((r : List ℕ) → v ≢ d ++ r) → (r : List ℕ) → s ≢ whole ++ r
-        fourth_differs none r at = not_later s a (b ++ (c ++ d)) t first (not_later t b (c ++ d) u second (not_later u c d v third none)) r (at ∙ ap (λ (x : List ℕ). x ++ r) is)
+        fourth_differs none r at = not_later s a (b ++ (c ++ d)) t first (not_later t b (c ++ d) u second (not_later u c d v third none)) r at
 
         all_four : (r : List ℕ) → v ≡ d ++ r → s ≡ whole ++ r
-        all_four r fourth = joined s a (b ++ (c ++ d)) t r first (joined t b (c ++ d) u r second (joined u c d v r third fourth)) ∙ ap (λ (x : List ℕ). x ++ r) (sym is)
+        all_four r fourth = joined s a (b ++ (c ++ d)) t r first (joined t b (c ++ d) u r second (joined u c d v r third fourth))
 
         pub last_piece : (o : Option (Bor (List ℕ))) → MatchOption o ((r : List ℕ) → v ≢ d ++ r) (λ x. v ≡ d ++ x.now) → MatchOption o ((r : List ℕ) → s ≢ whole ++ r) (λ x. s ≡ whole ++ x.now)
         last_piece None none = fourth_differs none
         last_piece (Some x) fourth = all_four x.now fourth
+
+-- ---- the pieces of a cell
+
+pub piece_is : (k : ChildInfo) (l : ℕ) (f : ℕ → List ℕ) (value shown : List ℕ) → shown ≡ (if is_significant k.mask l then value else []) → value ≡ f l → shown ≡ piece (is_significant k.mask) f l
+piece_is k l f value shown is same = is ∙ ap (λ (v : List ℕ). if is_significant k.mask l then v else []) same
+
+pub behind_pieces : (k : ChildInfo) (f : ℕ → List ℕ) (whole bytes : List ℕ) (left : Option (Bor (List ℕ))) (a b c d : List ℕ)
+    → a ≡ piece (is_significant k.mask) f 0 → b ≡ piece (is_significant k.mask) f 1 → c ≡ piece (is_significant k.mask) f 2 → d ≡ piece (is_significant k.mask) f 3
+    → whole ≡ piece (is_significant k.mask) f 0 ++ (piece (is_significant k.mask) f 1 ++ (piece (is_significant k.mask) f 2 ++ piece (is_significant k.mask) f 3))
+    → IsBehind bytes (a ++ (b ++ (c ++ d))) left → IsBehind bytes whole left
+behind_pieces k f whole bytes left a b c d is-a is-b is-c is-d is told =
+    let same : a ++ (b ++ (c ++ d)) ≡ whole = ap (λ (x : List ℕ). x ++ (b ++ (c ++ d))) is-a
+    ∙ ap (λ (x : List ℕ). piece (is_significant k.mask) f 0 ++ (x ++ (c ++ d))) is-b
+    ∙ ap (λ (x : List ℕ). piece (is_significant k.mask) f 0 ++ (piece (is_significant k.mask) f 1 ++ (x ++ d))) is-c
+    ∙ ap (λ (x : List ℕ). piece (is_significant k.mask) f 0 ++ (piece (is_significant k.mask) f 1 ++ (piece (is_significant k.mask) f 2 ++ x))) is-d
+    ∙ sym is in
+    subst (λ (x : List ℕ). IsBehind bytes x left) same told
 
 -- both parts, and nothing behind them
 pub both_parts : (s h d t u : List ℕ) → s ≡ h ++ t → t ≡ d ++ u → u ≡ [] → s ≡ h ++ d

@@ -1,4 +1,4 @@
--- The first fault of bytes that are no bag, and what a reader answers.
+-- Trusted: the first fault of bytes that are no bag, and what a reader answers.
 use Rattle.std.specs.Prelude.{◌≡◌, ℕ, ◌<◌, ◌⊎◌, List, length, slice_index_or, Option, Some, None, Result, Ok, Err}
 use Rattle.cd_base.specs.declared.hash.Hash256.{Hash256}
 use Rattle.cd_boc_write.specs.Frames.{Frame}

@@ -50,7 +50,10 @@ module _ (H : List ℕ → Hash256) where
   abbrev pub infos_of_texts : List Text → List ChildInfo
   infos_of_texts ts = infos_from H 0 (entries_of_texts ts)
 
+  -- the first fault of a cell, from the last one downwards
+  abbrev pub fault_of_cells : List Text → Option BagFault
+  fault_of_cells ts = cells_fault 0 ts (faces_of_texts ts)
+
   -- the first fault of all the cells
   abbrev pub fault_of_texts : List Text → Option BagFault
-  fault_of_texts ts =
-      let faces = faces_of_texts ts in option_or (cells_fault 0 ts faces) (option_map Clash (clash_of H faces))
+  fault_of_texts ts = option_or (fault_of_cells ts) (option_map Clash (clash_of H (faces_of_texts ts)))

@@ -4,6 +4,7 @@ use Rattle.std.specs.Prelude.{◌≡◌, ◌≢◌, ℕ, ◌+◌, ◌/◌, ◌%�
 use Rattle.cd_base.specs.Numbers.{from_little}
 use Rattle.cd_base.specs.Checksum.{crc32c}
 use Rattle.cd_base.specs.declared.hash.Hash256.{Hash256}
+use Rattle.cd_cell.specs.declared.limits.TheConstants.{MOST_CELLS}
 use Rattle.cd_cell.specs.declared.cell_fault.CellFault.{CellFault}
 use Rattle.cd_cell.specs.CellFaults.{first_byte, face_fault}
 use Rattle.cd_cell.specs.StoredText.{stored_text}
@@ -61,7 +62,7 @@ module _ (bytes : List ℕ) where
   pub record IsOverLimit (cells : ℕ) : Type 0 where
     pub there : roots_start bytes ≤ length bytes
     pub stated : cells ≡ stated_cells bytes
-    pub over : 1048576 < cells
+    pub over : MOST_CELLS < cells
 
   -- this root is the first one that is no cell
   pub record IsRootOfNoCell (root : ℕ) : Type 0 where

@@ -1,7 +1,8 @@
--- The grammar of bags of cells (TL-B, `serialized_boc`): whole texts, joined from the values of the header and the
+-- Trusted: the grammar of bags of cells (TL-B, `serialized_boc`): whole texts, joined from the values of the header and the
 -- texts of the cells.
 use Rattle.std.specs.Prelude.{◌≡◌, ℕ, ◌+◌, ◌*◌, ◌/◌, ◌^◌, ◌<◌, ◌≤◌, true, false, List, [], length, map, slice_index, slice_index_or, IfSome, if◌then◌else◌}
 use Rattle.cd_base.specs.declared.hash.Hash256.{Hash256}
+use Rattle.cd_cell.specs.declared.limits.TheConstants.{MOST_BITS, MOST_CELLS}
 use Rattle.cd_cell.specs.Masks.{bit_count}
 use Rattle.cd_cell.specs.Levels.{is_pruned}
 use Rattle.cd_cell.specs.StoredText.{stored_text}
@@ -30,7 +31,7 @@ stored_len mask = 34 * (bit_count mask + 1)
 
 -- the text of the cell with this number, of so many
 pub record IsText (cells number : ℕ) (t : Text) : Type 0 where
-  pub few_bits : length t.entry.bits ≤ 1023
+  pub few_bits : length t.entry.bits ≤ MOST_BITS
   pub few_refs : length t.entry.refs ≤ 4
   pub mask : t.mask ≤ 7
   pub stored : IfSome t.stored (λ bytes. length bytes ≡ stored_len t.mask)
@@ -42,7 +43,7 @@ pub record IsText (cells number : ℕ) (t : Text) : Type 0 where
 pub record IsBagOf (f : Frame) (ts : List Text) : Type 0 where
   pub shape : IsShape f.shape
   pub counted : f.cells ≡ length ts
-  pub few_cells : length ts ≤ 1048576
+  pub few_cells : length ts ≤ MOST_CELLS
   pub cells_fit : length ts < 256 ^ f.shape.size
   pub some_roots : 1 ≤ length f.roots
   pub few_roots : length f.roots ≤ length ts
@@ -59,7 +60,8 @@ module _ (H : List ℕ → Hash256) where
   -- pruned branch may not be
   pub record IsStated (t : Text) (tree : Tree) : Type 0 where
     pub mask : mask_of H tree ≡ t.mask
-    pub stored : IfSome t.stored (λ bytes. (is_pruned (kind_of H tree) ≡ false) × (bytes ≡ stored_text (info_of H tree)))
+    pub stored : IfSome t.stored
+        (λ bytes. (is_pruned (kind_of H tree) ≡ false) × (bytes ≡ stored_text (info_of H tree)))
 
   -- bytes are a bag of these trees: all its cells are well-formed, and together free of clashes
   pub record Spells (bytes : List ℕ) (trees : List Tree) : Type 0 where
@@ -68,6 +70,7 @@ module _ (H : List ℕ → Hash256) where
     pub bag : IsBagOf frame texts
     pub text : bytes ≡ frame_text frame
     pub good : (k : ℕ) → k < length texts → IsWellFormed H (unfolding_of (entries_of_texts texts) k)
-    pub stated : (k : ℕ) (d : Text) → k < length texts → IsStated (slice_index_or texts k d) (unfolding_of (entries_of_texts texts) k)
+    pub stated : (k : ℕ) (d : Text) → k < length texts
+        → IsStated (slice_index_or texts k d) (unfolding_of (entries_of_texts texts) k)
     pub clear : AreClashFree H (unfold_from 0 (entries_of_texts texts))
     pub are : trees ≡ map (unfolding_of (entries_of_texts texts)) frame.roots

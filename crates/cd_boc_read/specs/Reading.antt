@@ -4,6 +4,7 @@ use Rattle.std.specs.List.{list_all}
 use Rattle.cd_base.specs.Numbers.{from_big, from_little}
 use Rattle.cd_base.specs.Reading.{◌>>=◌, require, part_at, byte_at, number_at}
 use Rattle.cd_base.specs.Checksum.{crc32c}
+use Rattle.cd_cell.specs.declared.limits.TheConstants.{MOST_CELLS}
 use Rattle.cd_cell.specs.BitText.{data_bits}
 use Rattle.cd_boc_write.specs.declared.shape.Shape.{Shape}
 use Rattle.cd_boc_write.specs.Frames.{Frame}
@@ -63,7 +64,7 @@ counts_at cut shape bytes = do
   total ← number_at cut shape.off_bytes absent.1
   _ ← require (nat_le 1 roots.0 && nat_le roots.0 cells.0) (Roots roots.0 cells.0)
   _ ← require (absent.0 == 0) (Absent absent.0)
-  _ ← require (nat_le cells.0 1048576) (Limit cells.0)
+  _ ← require (nat_le cells.0 MOST_CELLS) (Limit cells.0)
   Ok (record { cells = cells.0; roots = roots.0; total = total.0 }, total.1)
 
 -- each of the numbers, of which the first stands in this place, names a cell
@@ -164,6 +165,10 @@ texts_at shape cells total (suc left) number index bytes = do
   others ← texts_at shape cells total left (number + 1) (drop shape.off_bytes index) text.1
   Ok (text.0 ∷ others)
 
+-- the texts of all cells of a frame
+abbrev pub all_texts_at : FrameParts → Result (List Text) BagFault
+all_texts_at parts = texts_at parts.shape parts.cells (length parts.cell_data) parts.cells 0 parts.index parts.cell_data
+
 -- ---- the bag
 
 -- the frame, with its index as numbers
@@ -180,5 +185,5 @@ frame_of parts = record {
 unfoldable pub bag_at : List ℕ → Result (Frame × List Text) BagFault
 bag_at bytes = do
   parts ← frame_at bytes
-  texts ← texts_at parts.shape parts.cells (length parts.cell_data) parts.cells 0 parts.index parts.cell_data
+  texts ← all_texts_at parts
   Ok (frame_of parts, texts)

@@ -1,19 +1,14 @@
-ghost use Rattle.std.specs.Prelude.{◌≡◌, ◌≢◌, ◌↔◌, ℕ, ◌<◌, ◌≤◌, [], ◌++◌, List, IsTrue, length, map, slice_index, slice_index_or, None, Some, IfOk, MatchOption, MatchResult, if◌then◌else◌};
+ghost use Rattle.std.specs.Prelude.{◌≡◌, ◌↔◌, ◌<◌, ◌≤◌, [], ◌++◌, All, IsTrue, length, None, Some, IfOk, IfErr, if◌then◌else◌};
 ghost use Rattle.cd_cell.specs.Masks.{is_significant};
 ghost use Rattle.cd_cell.specs.Levels.{info_of_face};
-ghost use Rattle.cd_cell.specs.CellFaults.{no_info};
-ghost use Rattle.cd_cell.specs.GoodFace.{IsGoodFace};
-ghost use Rattle.cd_cell.specs.StoredText.{hash_text, depth_text, stored_hashes, stored_depths, stored_text};
-ghost use Rattle.cd_cell.specs.Bags.{face_at};
-ghost use Rattle.cd_cell.specs.Unfolding.{faces_from, infos_from};
-ghost use Rattle.cd_boc_write.specs.CellTexts.{entries_of_texts};
-ghost use Rattle.cd_boc_read.specs.Views.{text_view, text_views};
-ghost use Rattle.cd_boc_read.specs.CellFaults.{stores_pruned, is_shown, cell_fault, cells_fault};
+ghost use Rattle.cd_cell.specs.StoredText.{stored_hashes, stored_depths, stored_text};
+ghost use Rattle.cd_boc_read.specs.Views.{text_view, text_views, refs_view, face_among, IsBehind};
+ghost use Rattle.cd_boc_read.specs.CellFaults.{faces_of_texts, infos_of_texts, stores_pruned, is_shown, cell_fault, fault_of_cells};
 ghost use Rattle.cd_boc_read.specs.BagFaults.{AreTexts, Answers};
 
 use crate::BagFault;
 use crate::cell_text::CellText;
-use cd_cell::{ChildInfo, Face, Hash32, face_info};
+use cd_cell::{ChildInfo, Face, Hash32, MOST_CELLS, face_info};
 use std::alloc::Global;
 
 /// The faces of the cells of a bag, and what they show of themselves.
@@ -26,12 +21,13 @@ pub(crate) struct Cells {
 /// The faces of cells whose children stand behind them, from the last cell downwards, or the first fault on that way.
 pub(crate) fn cells_of<H: Hash32>(alloc: Global, texts: &[CellText]) -> Result<Cells, BagFault>
     requires some { 0 < length texts.now }
-    requires few { length texts.now ≤ 1048576 }
+    requires few { length texts.now ≤ MOST_CELLS }
     requires texts { AreTexts (text_views texts.now) }
-    ensures faces { IfOk result (λ cells. cells.faces.items ≡ faces_from H.digest_of 0 (entries_of_texts (text_views texts.now))) }
-    ensures infos { IfOk result (λ cells. cells.infos.items ≡ infos_from H.digest_of 0 (entries_of_texts (text_views texts.now))) }
-    ensures good { IfOk result (λ cells. (k : ℕ) → k < length cells.faces.items → IsGoodFace (face_at cells.faces.items k)) }
-    ensures exact { Answers (cells_fault H.digest_of 0 (text_views texts.now) (faces_from H.digest_of 0 (entries_of_texts (text_views texts.now)))) result }
+    ensures faces { IfOk result
+        (λ cells. cells.faces.items ≡ faces_of_texts H.digest_of (text_views texts.now)) }
+    ensures infos { IfOk result
+        (λ cells. cells.infos.items ≡ infos_of_texts H.digest_of (text_views texts.now)) }
+    ensures exact { Answers (fault_of_cells H.digest_of (text_views texts.now)) result }
 {
     let count = texts.len();
     // Faces are put together where they lie: one takes about 700 bytes.
@@ -54,9 +50,9 @@ pub(crate) fn cells_of<H: Hash32>(alloc: Global, texts: &[CellText]) -> Result<C
 /// Puts together the face of a cell, by what all cells show, where an empty one stands.
 fn put_face(face: &mut Face, text: &CellText, infos: &[ChildInfo])
     requires bare { face.old.kids ≡ [] }
-    requires few { length (text_view text.now).entry.refs ≤ 4 }
-    requires there { (p : ℕ) → p < length (text_view text.now).entry.refs → slice_index (text_view text.now).entry.refs p < length infos.now }
-    ensures { face.new ≡ record { exotic = text.now.exotic; bits = text.now.bits; kids = map (λ r. slice_index_or infos.now r no_info) (text_view text.now).entry.refs } }
+    requires few { length (refs_view text.now) ≤ 4 }
+    requires there { All (λ number. number < length infos.now) (refs_view text.now) }
+    ensures { face.new ≡ face_among infos.now text.now }
 {
     face.set_data(text.exotic, &text.bits);
     for child in text.children() {
@@ -66,10 +62,11 @@ fn put_face(face: &mut Face, text: &CellText, infos: &[ChildInfo])
 
 /// What a cell shows of itself, or its first fault.
 fn info_of<H: Hash32>(number: u32, text: &CellText, face: &Face) -> Result<ChildInfo, BagFault>
-    ensures exact { MatchResult result
-        (λ info. (cell_fault H.digest_of number (text_view text.now) face.now ≡ None) × (info ≡ info_of_face H.digest_of face.now))
+    ensures sound { IfOk result
+        (λ _. cell_fault H.digest_of number (text_view text.now) face.now ≡ None) }
+    ensures fault { IfErr result
         (λ fault. cell_fault H.digest_of number (text_view text.now) face.now ≡ Some fault) }
-    ensures good { IfOk result (λ _. IsGoodFace face.now) }
+    ensures info { IfOk result (λ info. info ≡ info_of_face H.digest_of face.now) }
 {
     if stores_pruned(text, face) {
         return Err(BagFault::PrunedHashes { cell: number });
@@ -131,58 +128,62 @@ fn are_shown(stored: &[u8], info: &ChildInfo) -> bool
 
 /// What is left behind the hashes at the significant levels, where the bytes begin with them.
 fn behind_hashes<'a>(bytes: &'a [u8], info: &ChildInfo) -> Option<&'a [u8]>
-    ensures { MatchOption result ((rest : List ℕ) → bytes.now ≢ stored_hashes info.now ++ rest) (λ rest. bytes.now ≡ stored_hashes info.now ++ rest.now) }
+    ensures { IsBehind bytes.now (stored_hashes info.now) result }
 {
-    let Some(one) = behind_hash(bytes, info, 0) else {
-        return None;
-    };
-    let Some(two) = behind_hash(one, info, 1) else {
-        return None;
-    };
-    let Some(three) = behind_hash(two, info, 2) else {
-        return None;
-    };
-    behind_hash(three, info, 3)
-}
-
-fn behind_hash<'a>(bytes: &'a [u8], info: &ChildInfo, level: u8) -> Option<&'a [u8]>
-    requires { level ≤ 3 }
-    ensures { MatchOption result
-        ((rest : List ℕ) → bytes.now ≢ (if is_significant info.now.mask level then hash_text info.now level else []) ++ rest)
-        (λ rest. bytes.now ≡ (if is_significant info.now.mask level then hash_text info.now level else []) ++ rest.now) }
-{
-    if !info.mask.significant(level) {
-        return Some(bytes);
-    }
-    let hash = info.hash_at(level);
-    bytes.strip_prefix(&hash.0)
+    let zero = info.hash_at(0);
+    let one = info.hash_at(1);
+    let two = info.hash_at(2);
+    let three = info.hash_at(3);
+    behind(
+        bytes,
+        if_significant(info, 0, &zero.0),
+        if_significant(info, 1, &one.0),
+        if_significant(info, 2, &two.0),
+        if_significant(info, 3, &three.0),
+    )
 }
 
 /// What is left behind the depths at the significant levels, where the bytes begin with them.
 fn behind_depths<'a>(bytes: &'a [u8], info: &ChildInfo) -> Option<&'a [u8]>
-    ensures { MatchOption result ((rest : List ℕ) → bytes.now ≢ stored_depths info.now ++ rest) (λ rest. bytes.now ≡ stored_depths info.now ++ rest.now) }
+    ensures { IsBehind bytes.now (stored_depths info.now) result }
 {
-    let Some(one) = behind_depth(bytes, info, 0) else {
-        return None;
-    };
-    let Some(two) = behind_depth(one, info, 1) else {
-        return None;
-    };
-    let Some(three) = behind_depth(two, info, 2) else {
-        return None;
-    };
-    behind_depth(three, info, 3)
+    let zero = info.depth_at(0).to_be_bytes();
+    let one = info.depth_at(1).to_be_bytes();
+    let two = info.depth_at(2).to_be_bytes();
+    let three = info.depth_at(3).to_be_bytes();
+    behind(
+        bytes,
+        if_significant(info, 0, &zero),
+        if_significant(info, 1, &one),
+        if_significant(info, 2, &two),
+        if_significant(info, 3, &three),
+    )
 }
 
-fn behind_depth<'a>(bytes: &'a [u8], info: &ChildInfo, level: u8) -> Option<&'a [u8]>
+/// What a cell shows at a level, where the level is significant, and else nothing.
+fn if_significant<'a>(info: &ChildInfo, level: u8, piece: &'a [u8]) -> &'a [u8]
     requires { level ≤ 3 }
-    ensures { MatchOption result
-        ((rest : List ℕ) → bytes.now ≢ (if is_significant info.now.mask level then depth_text info.now level else []) ++ rest)
-        (λ rest. bytes.now ≡ (if is_significant info.now.mask level then depth_text info.now level else []) ++ rest.now) }
+    ensures { result.now ≡ (if is_significant info.now.mask level then piece.now else []) }
 {
-    if !info.mask.significant(level) {
-        return Some(bytes);
+    if info.mask.significant(level) {
+        piece
+    } else {
+        &[]
     }
-    let depth = info.depth_at(level).to_be_bytes();
-    bytes.strip_prefix(&depth)
+}
+
+/// What is left behind four pieces, where the bytes begin with them.
+fn behind<'a>(bytes: &'a [u8], a: &[u8], b: &[u8], c: &[u8], d: &[u8]) -> Option<&'a [u8]>
+    ensures { IsBehind bytes.now (a.now ++ (b.now ++ (c.now ++ d.now))) result }
+{
+    let Some(one) = bytes.strip_prefix(a) else {
+        return None;
+    };
+    let Some(two) = one.strip_prefix(b) else {
+        return None;
+    };
+    let Some(three) = two.strip_prefix(c) else {
+        return None;
+    };
+    three.strip_prefix(d)
 }

@@ -10,7 +10,8 @@ use crate::counts::Counts;
 use crate::fields::{numbers_in, small_at};
 use crate::frame_text::FrameText;
 use cd_base::{byte_at, crc32c, from_le, number_at, part_at};
-use cd_boc_write::Shape;
+use cd_boc_write::{HAS_CACHE_BITS, HAS_CRC, HAS_INDEX, Shape, ZERO_BITS};
+use cd_cell::MOST_CELLS;
 use std::alloc::Global;
 
 /// Whether the two zero bits are zero, and cache bits come with an index alone.
@@ -18,7 +19,7 @@ use std::alloc::Global;
 fn are_flags(flags: u8) -> bool
     ensures { result ≡ spec.are_flags flags }
 {
-    flags / 8 % 4 == 0 && (flags / 32 % 2 != 1 || flags / 128 % 2 == 1)
+    flags / ZERO_BITS % 4 == 0 && (flags / HAS_CACHE_BITS % 2 != 1 || flags / HAS_INDEX % 2 == 1)
 }
 
 #[tactic(auto, unfolding(crate::specs::Reading::are_sizes))]
@@ -35,9 +36,9 @@ fn shape_of(flags: u8, off_bytes: u8) -> Shape
     Shape {
         size: flags % 8,
         off_bytes,
-        has_index: flags / 128 % 2 == 1,
-        has_crc: flags / 64 % 2 == 1,
-        has_cache_bits: flags / 32 % 2 == 1,
+        has_index: flags / HAS_INDEX % 2 == 1,
+        has_crc: flags / HAS_CRC % 2 == 1,
+        has_cache_bits: flags / HAS_CACHE_BITS % 2 == 1,
     }
 }
 
@@ -71,7 +72,7 @@ fn counts_at<'a>(
 ) -> Result<(Counts, &'a [u8]), BagFault>
     requires { IsShape shape.now }
     ensures exact { Gives (λ x. (x.0, x.1.now)) result (spec.counts_at cut shape.now bytes.now) }
-    ensures few { IfOk result (λ x. x.0.cells ≤ 1048576) }
+    ensures few { IfOk result (λ x. x.0.cells ≤ MOST_CELLS) }
     ensures rooted { IfOk result (λ x. x.0.roots ≤ x.0.cells) }
     ensures rest { IfOk result (λ x. length x.1.now ≤ length bytes.now) }
 {
@@ -88,7 +89,7 @@ fn counts_at<'a>(
     if absent != 0 {
         return Err(BagFault::Absent { absent });
     }
-    if cells > 1_048_576 {
+    if cells > MOST_CELLS {
         return Err(BagFault::Limit { cells });
     }
     Ok((
@@ -123,7 +124,7 @@ fn roots_at<'a>(
     bytes: &'a [u8],
 ) -> Result<(Vec<u32>, &'a [u8]), BagFault>
     requires size { size ≤ 4 }
-    requires few { counts.now.roots ≤ 1048576 }
+    requires few { counts.now.roots ≤ MOST_CELLS }
     ensures exact { GivesUnless Memory (λ x. (x.0.items, x.1.now)) result
         (spec.roots_at cut size counts.now bytes.now) }
     ensures rest { IfOk result (λ x. length x.1.now ≤ length bytes.now) }
@@ -138,7 +139,7 @@ fn roots_at<'a>(
 /// The bytes of the index.
 fn index_len(shape: &Shape, cells: u32) -> usize
     requires shape { IsShape shape.now }
-    requires few { cells ≤ 1048576 }
+    requires few { cells ≤ MOST_CELLS }
     ensures { result ≡ spec.index_len shape.now cells }
 {
     if shape.has_index {

@@ -10,7 +10,7 @@ use crate::BagFault;
 use crate::bag_text::{BagText, bag_at};
 use crate::cell_text::CellText;
 use crate::cells::cells_of;
-use cd_cell::{Bag, Face, Hash32, least_clash};
+use cd_cell::{Bag, Face, Hash32, MOST_CELLS, least_clash};
 use std::alloc::{AllocError, Global};
 
 /// The cells of a bag of cells, and its roots (TL-B, `serialized_boc`): at most 1,048,576 cells, and at least one
@@ -19,7 +19,7 @@ pub fn read_bag<H: Hash32>(alloc: Global, bytes: &[u8]) -> Result<Bag<H>, BagFau
     ensures found { IfOk result (λ bag. Spells H.digest_of bytes.now (bag_trees bag)) }
     ensures exact { Answers (bag_fault H.digest_of bytes.now) result }
     ensures counted { IfOk result (λ bag. length bag.cells ≡ stated_cells bytes.now) }
-    ensures few { IfOk result (λ bag. length bag.cells ≤ 1048576) }
+    ensures few { IfOk result (λ bag. length bag.cells ≤ MOST_CELLS) }
     ensures rooted { IfOk result (λ bag. 1 ≤ length bag.roots) }
 {
     let bag = bag_at(alloc, bytes)?;
@@ -42,10 +42,11 @@ fn bag_of<H: Hash32>(alloc: Global, bag: BagText) -> Result<Bag<H>, BagFault>
 /// The faces of cells that are well-formed and free of clashes, or the first fault of all the cells.
 fn faces_of<H: Hash32>(alloc: Global, texts: &[CellText]) -> Result<Vec<Face>, BagFault>
     requires some { 0 < length texts.now }
-    requires few { length texts.now ≤ 1048576 }
+    requires few { length texts.now ≤ MOST_CELLS }
     requires texts { AreTexts (text_views texts.now) }
     ensures exact { Answers (fault_of_texts H.digest_of (text_views texts.now)) result }
-    ensures faces { IfOk result (λ faces. faces.items ≡ faces_of_texts H.digest_of (text_views texts.now)) }
+    ensures faces { IfOk result
+        (λ faces. faces.items ≡ faces_of_texts H.digest_of (text_views texts.now)) }
 {
     let cells = cells_of::<H>(alloc, texts)?;
     match least_clash(alloc, &cells.faces, &cells.infos) {

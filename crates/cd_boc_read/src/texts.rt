@@ -4,7 +4,7 @@ ghost use Rattle.cd_boc_read.specs.Grammar.{IsShape, stored_len};
 ghost use Rattle.cd_boc_read.specs.Reading as spec;
 ghost use Rattle.cd_base.specs.Reading.{Gives, GivesUnless};
 ghost use Rattle.cd_boc_read.specs.declared.bag_fault.BagFault.TheVariants.{Memory};
-ghost use Rattle.cd_boc_read.specs.Views.{text_view, text_views};
+ghost use Rattle.cd_boc_read.specs.Views.{text_view, text_views, parts_view};
 
 use crate::bag_fault::BagFault;
 use crate::cell_text::CellText;
@@ -69,7 +69,8 @@ fn parts_at<'a>(
 ) -> Result<(CellText<'a>, &'a [u8]), BagFault>
     requires size { size ≤ 4 }
     requires count { first % 8 ≤ 4 }
-    ensures exact { Gives (λ x. (text_view x.0, x.1.now)) result (spec.parts_at fault size cells number first second bytes.now) }
+    ensures exact { Gives (λ x. (text_view x.0, x.1.now)) result
+        (spec.parts_at fault size cells number first second bytes.now) }
     ensures rest { IfOk result (λ x. length x.1.now ≤ length bytes.now) }
 {
     let count = first % 8;
@@ -110,7 +111,8 @@ fn text_at<'a>(
     bytes: &'a [u8],
 ) -> Result<(CellText<'a>, &'a [u8]), BagFault>
     requires size { size ≤ 4 }
-    ensures exact { Gives (λ x. (text_view x.0, x.1.now)) result (spec.text_at fault size cells number bytes.now) }
+    ensures exact { Gives (λ x. (text_view x.0, x.1.now)) result
+        (spec.text_at fault size cells number bytes.now) }
     ensures rest { IfOk result (λ x. length x.1.now ≤ length bytes.now) }
 {
     let [first, second, rest @ ..] = bytes else {
@@ -145,7 +147,8 @@ pub(crate) fn texts_at<'a>(
     frame: &FrameText<'a>,
 ) -> Result<Vec<CellText<'a>>, BagFault>
     requires { IsShape frame.now.shape }
-    ensures { GivesUnless Memory (λ texts. text_views texts.items) result (spec.texts_at frame.now.shape frame.now.cells (length frame.now.cell_data.now) frame.now.cells 0 frame.now.index.now frame.now.cell_data.now) }
+    ensures { GivesUnless Memory (λ texts. text_views texts.items) result
+        (spec.all_texts_at (parts_view frame.now)) }
 {
     let stated = frame.cell_data.len() as u64;
     let most = frame.cell_data.len() / 2 + 1;

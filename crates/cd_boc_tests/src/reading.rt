@@ -393,8 +393,17 @@ fn a_chain_may_be_1024_deep(rt: HostRuntime) -> Result<(), Fail> {
 fn faults_have_texts(rt: HostRuntime) -> Result<(), Fail> {
     let alloc = rt.alloc();
     let cases = [
-        (BagFault::Magic { value: 0x68ff_65f3 }, "magic number 68ff65f3"),
-        (BagFault::Crc { stated: 1, real: 0xbb13_d05e }, "checksum 00000001, not bb13d05e"),
+        (
+            BagFault::Magic { value: 0x68ff_65f3 },
+            "magic number 68ff65f3",
+        ),
+        (
+            BagFault::Crc {
+                stated: 1,
+                real: 0xbb13_d05e,
+            },
+            "checksum 00000001, not bb13d05e",
+        ),
         (
             BagFault::Cell {
                 cell: 7,

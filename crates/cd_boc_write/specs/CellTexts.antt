@@ -1,4 +1,4 @@
--- The texts of cells in a bag (TL-B, `serialized_boc`; TVM documentation, "Cell serialization").
+-- Trusted: the texts of cells in a bag (TL-B, `serialized_boc`; TVM documentation, "Cell serialization").
 use Rattle.std.specs.Prelude.{ℕ, ◌+◌, ◌*◌, List, [], ◌∷◌, ◌++◌, length, map, Option, is_some, if◌then◌else◌}
 use Rattle.std.specs.List.{flat_map}
 use Rattle.std.specs.Option.{unwrap_or}

@@ -1,4 +1,4 @@
--- The export text of listed cells: a bag of all of them with an index and a checksum, without cache bits and without
+-- Trusted: the export text of listed cells: a bag of all of them with an index and a checksum, without cache bits and without
 -- stored hashes, whose one root is the first (TL-B, `serialized_boc`).
 use Rattle.std.specs.Prelude.{ℕ, ◌^◌, true, false, List, [], ◌∷◌, ◌++◌, length, map, find, position, nat_lt, None, unwrap_or}
 use Rattle.cd_base.specs.declared.hash.Hash256.{Hash256}

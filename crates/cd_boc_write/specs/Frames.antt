@@ -1,4 +1,4 @@
--- The frame of a bag of cells: all of its text but what the cell data say (TL-B, `serialized_boc`).
+-- Trusted: the frame of a bag of cells: all of its text but what the cell data say (TL-B, `serialized_boc`).
 use Rattle.std.specs.Prelude.{ℕ, ◌+◌, List, [], ◌++◌, length, if◌then◌else◌}
 use Rattle.std.specs.List.{flat_map}
 use Rattle.cd_base.specs.Numbers.{big, little}

@@ -1,4 +1,4 @@
--- Listed cells sorted by their hashes.
+-- Inner: listed cells sorted by their hashes.
 use Rattle.std.specs.Prelude.{◌≡◌, ℕ, ◌<◌, List, length, Contains}
 use Rattle.std.specs.Ordering.{nat_cmp, ordering_then}
 use Rattle.std.specs.List.Sorted.{IsSorted}

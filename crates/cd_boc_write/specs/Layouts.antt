@@ -1,4 +1,4 @@
--- Where the cells of an export lie.
+-- Trusted: where the cells of an export lie.
 use Rattle.std.specs.Prelude.{ℕ, ◌-◌, ◌^◌, ◌<◌, ◌≤◌, List, ◌∷◌, length, slice_index}
 
 -- the bytes of all cells: the last end

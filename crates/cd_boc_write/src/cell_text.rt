@@ -18,7 +18,8 @@ pub fn put_cell(out: &mut Vec<u8>, face: &Face, refs: &[u32], size: u8) -> Resul
     requires most_size { size ≤ 4 }
     requires counted { length refs.now ≡ length face.now.kids }
     requires fits { All (λ number. number < 256 ^ size) refs.now }
-    ensures ok { OnOk result (out.new.items ≡ out.old.items ++ cell_text size (text_of_face face.now refs.now)) }
+    ensures ok { OnOk result
+        (out.new.items ≡ out.old.items ++ cell_text size (text_of_face face.now refs.now)) }
     ensures err { OnErr result (out.new.items ≡ out.old.items) }
 {
     let start = out.len();
@@ -34,7 +35,8 @@ fn add_cell(out: &mut Vec<u8>, face: &Face, refs: &[u32], size: u8) -> Result<()
     requires good { IsGoodFace face.now }
     requires size { size ≤ 4 }
     requires counted { length refs.now ≡ length face.now.kids }
-    ensures ok { OnOk result (out.new.items ≡ out.old.items ++ cell_text size (text_of_face face.now refs.now)) }
+    ensures ok { OnOk result
+        (out.new.items ≡ out.old.items ++ cell_text size (text_of_face face.now refs.now)) }
     ensures err { OnErr result (take (vec_len out.old) out.new.items ≡ out.old.items) }
 {
     out.extend_from_slice(&face.descriptors(face.mask()))?;

@@ -18,12 +18,12 @@ use crate::numbers::width_of;
 use crate::places::{keys_of, refs_of};
 use crate::write_fault::WriteFault;
 use cd_base::crc32c;
-use cd_cell::{Listed, NewCell};
+use cd_cell::{Listed, MOST_CELLS, NewCell};
 use std::alloc::{AllocError, Global};
 
 /// The layout of the export text of some cells.
 pub fn lay_out(alloc: Global, cells: &[NewCell]) -> Result<Layout, WriteFault>
-    requires few { length cells.now ≤ 1048576 }
+    requires few { length cells.now ≤ MOST_CELLS }
     requires good { All (λ c. IsGoodFace c.face) cells.now }
     ensures { IfOk result (λ layout. IsLayoutOf cells.now layout) }
 {
@@ -43,10 +43,12 @@ pub fn lay_out(alloc: Global, cells: &[NewCell]) -> Result<Layout, WriteFault>
 /// The export text of some cells: with an index and a checksum, without cache bits and stored hashes, and with the
 /// first cell as its one root. A child that isn't listed gets the number 0.
 pub fn write_bag(alloc: Global, cells: &[NewCell]) -> Result<Vec<u8>, WriteFault>
-    requires few { length cells.now ≤ 1048576 }
+    requires few { length cells.now ≤ MOST_CELLS }
     requires good { All (λ c. IsGoodFace c.face) cells.now }
     ensures text { IfOk result (λ text. text.items ≡ export_text cells.now) }
-    ensures tree { (H : List ℕ → Hash256) (t : Tree) → cells.now ≡ map (new_cell_of H) (distinct_cells H t) → IfOk result (λ text. text.items ≡ bag_of H t) }
+    ensures tree { (H : List ℕ → Hash256) (t : Tree)
+        → cells.now ≡ map (new_cell_of H) (distinct_cells H t)
+        → IfOk result (λ text. text.items ≡ bag_of H t) }
 {
     let layout = lay_out(alloc, cells)?;
     let keys = keys_of(alloc, cells)?;
@@ -65,11 +67,12 @@ fn put_cells(
     keys: &[Key],
     size: u8,
 ) -> Result<(), WriteFault>
-    requires few { length cells.now ≤ 1048576 }
+    requires few { length cells.now ≤ MOST_CELLS }
     requires good { All (λ c. IsGoodFace c.face) cells.now }
     requires keys { AreKeysOf cells.now keys.now }
     requires size { size ≡ width_of (length cells.now) }
-    ensures { OnOk result (text.new.items ≡ text.old.items ++ texts_text size (export_texts cells.now)) }
+    ensures { OnOk result
+        (text.new.items ≡ text.old.items ++ texts_text size (export_texts cells.now)) }
 {
     for cell in cells {
         let refs = refs_of(keys, cell.face.kids());
@@ -80,7 +83,7 @@ fn put_cells(
 
 // The ends of the cells' texts.
 fn ends_of(alloc: Global, cells: &[NewCell], size: u8) -> Result<Vec<u64>, AllocError>
-    requires few { length cells.now ≤ 1048576 }
+    requires few { length cells.now ≤ MOST_CELLS }
     requires good { All (λ c. IsGoodFace c.face) cells.now }
     requires size { size ≤ 4 }
     ensures ends { IfOk result (λ ends. ends.items ≡ ends_from size 0 (export_texts cells.now)) }

@@ -1,16 +1,12 @@
 ghost use Rattle.std.specs.Prelude.{◌≡◌, ◌+◌, ◌<◌, ◌≤◌, ◌++◌, [], ◌∷◌, List, length, slice_index, OnOk};
 ghost use Rattle.cd_cell.specs.declared.new_cell.NewCell.{NewCell};
-ghost use Rattle.cd_boc_write.specs.Exports.{export_shape, export_text, header_text};
+ghost use Rattle.cd_boc_write.specs.Exports.{export_text};
 ghost use Rattle.cd_boc_write.specs.Layouts.{data_len, start_of, IsLayout};
 
 use crate::numbers::{put_number, put_offsets};
+use crate::shape::{HAS_CRC, HAS_INDEX};
 use cd_cell::Listed;
 use std::alloc::AllocError;
-
-// Bits of the flag byte.
-const HAS_INDEX: u8 = 0x80;
-
-const HAS_CRC: u8 = 0x40;
 
 const CRC_LEN: u64 = 4;
 
@@ -29,12 +25,13 @@ pub struct Layout {
 }
 
 impl Layout {
-    ghost use Rattle.cd_boc_write.specs.LayoutOf.{IsLayoutOf};
+    ghost use Rattle.cd_boc_write.specs.LayoutOf.{IsLayoutOf, header_laid};
 
     /// The bytes of the whole text, with the checksum. Takes no memory.
     pub fn total(&self) -> u64
         ensures sum { result ≡ self.now.header_len + data_len self.now.ends + 4 }
-        ensures text { (cells : List NewCell) → IsLayoutOf cells self.now → result ≡ length (export_text cells) }
+        ensures text { (cells : List NewCell) → IsLayoutOf cells self.now
+            → result ≡ length (export_text cells) }
     {
         self.header_len + self.data_len() + CRC_LEN
     }
@@ -58,7 +55,7 @@ impl Layout {
 
     // Adds all that stands before the cell data.
     pub(crate) fn put_header(&self, out: &mut Vec<u8>) -> Result<(), AllocError>
-        ensures { OnOk result (out.new.items ≡ out.old.items ++ header_text (export_shape self.now.size self.now.off_bytes) (length self.now.ends) (0 ∷ []) self.now.ends (data_len self.now.ends)) }
+        ensures { OnOk result (out.new.items ≡ out.old.items ++ header_laid self.now) }
     {
         let flags = HAS_INDEX + HAS_CRC + self.size;
         let ends = self.ends.as_slice();

@@ -5,12 +5,12 @@ ghost use Rattle.cd_boc_write.specs.Keys.{AreKeysOf};
 
 use crate::key::Key;
 use cd_base::Hash256;
-use cd_cell::{ChildInfo, NewCell};
+use cd_cell::{ChildInfo, MOST_CELLS, NewCell};
 use std::alloc::{AllocError, Global};
 
 /// The keys of listed cells, in order.
 pub fn keys_of(alloc: Global, cells: &[NewCell]) -> Result<Vec<Key>, AllocError>
-    requires { length cells.now ≤ 1048576 }
+    requires { length cells.now ≤ MOST_CELLS }
     ensures { IfOk result (λ keys. AreKeysOf cells.now keys.items) }
 {
     let mut keys = Vec::with_capacity(alloc, cells.len())?;
@@ -26,7 +26,8 @@ pub fn keys_of(alloc: Global, cells: &[NewCell]) -> Result<Vec<Key>, AllocError>
 
 /// The first place at which a hash is listed, or 0, by the keys of the listed cells.
 pub fn place_of(keys: &[Key], hash: &Hash256) -> u32
-    ensures { (cells : List NewCell) → AreKeysOf cells keys.now → result ≡ place_of cells hash.now }
+    ensures { (cells : List NewCell) → AreKeysOf cells keys.now
+        → result ≡ place_of cells hash.now }
 {
     let first = Key {
         hash: *hash,
@@ -44,7 +45,8 @@ pub fn place_of(keys: &[Key], hash: &Hash256) -> u32
 /// The places of what a cell's children show; behind them stand zeros.
 pub fn refs_of(keys: &[Key], kids: &[ChildInfo]) -> [u32; 4]
     requires { length kids.now ≤ 4 }
-    ensures { (cells : List NewCell) → AreKeysOf cells keys.now → take (length kids.now) result ≡ refs_among cells kids.now }
+    ensures { (cells : List NewCell) → AreKeysOf cells keys.now
+        → take (length kids.now) result ≡ refs_among cells kids.now }
 {
     let mut refs = [0; 4];
     for (at, kid) in kids.iter().enumerate() {

@@ -1,3 +1,15 @@
+/// Bits of the flag byte (TL-B, `serialized_boc`): an index stands before the cell data.
+pub const HAS_INDEX: u8 = 0x80;
+
+/// A CRC-32C of all bytes before it ends the bag.
+pub const HAS_CRC: u8 = 0x40;
+
+/// Each entry of the index is doubled, with a free lowest bit.
+pub const HAS_CACHE_BITS: u8 = 0x20;
+
+/// The lower of two bits that are zero.
+pub const ZERO_BITS: u8 = 0x08;
+
 /// How a bag of cells writes its numbers, and which parts it has (TL-B, `serialized_boc`).
 #[derive(Clone, Copy, Debug, PartialEq, Eq)]
 pub struct Shape {

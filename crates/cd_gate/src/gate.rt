@@ -6,9 +6,8 @@ ghost use Rattle.cd_gate.specs.Gates.{IsGateTable, IsSameSeat, IsSeatOf, IsFirst
 
 use crate::journaled::{Deed, Journaled};
 use crate::plays::{SplitAt, SplitPoint};
-use crate::rule::{GateTable, Origin, TableSeat, TurnRule};
-use crate::seat_state::SeatState;
-use crate::steps::{give_back, take_in, take_value};
+use crate::rule::{GateTable, Origin, OwnTable, TableSeat};
+use crate::steps::{close, give_back, take_in, take_value};
 use atomic_table::{Refused, Table};
 use cd_base::Memory;
 use std::alloc::{AllocFailed, Global};
@@ -19,7 +18,7 @@ use std::sync::Wait;
 /// One value, which goes from turn to turn among threads. Contracts see which gate it is, what its value began with, and
 /// how many workers' numbers it has.
 pub struct Gate<T: Journaled> {
-    table: Table<Option<T>, SeatState<T::Entry, T::Start>, Origin<T>, TurnRule, Global>,
+    table: OwnTable<T>,
 }
 
 impl<T: Journaled> Model for Gate<T> {
@@ -140,10 +139,7 @@ impl<T: Journaled> Gate<T> {
     {
         let Gate { table } = self;
         let GateSeat { seat: taken } = seat;
-        let mut closed = table.close_with(taken);
-        let value = closed.take(0);
-        closed.free();
-        value.unwrap()
+        close(table, taken)
     }
 
     /// Waits for the seat's turn, lends the value to the deed, and serves the next. Beside what the deed takes it takes no

@@ -2,7 +2,8 @@
 //! one slot has the value.
 use crate::journaled::Journaled;
 use crate::seat_state::SeatState;
-use atomic_table::{Seat, Shared, TableRule};
+use atomic_table::{Seat, Shared, Table, TableRule};
+use std::alloc::Global;
 use std::snapshot::Snapshot;
 
 /// What the gate was made with.
@@ -37,4 +38,13 @@ pub(crate) type GateTable<T> = Shared<
 pub(crate) type TableSeat<T> = Seat<
     Option<T>,
     SeatState<<T as Journaled>::Entry, <T as Journaled>::Start>,
+>;
+
+/// The table itself.
+pub(crate) type OwnTable<T> = Table<
+    Option<T>,
+    SeatState<<T as Journaled>::Entry, <T as Journaled>::Start>,
+    Origin<T>,
+    TurnRule,
+    Global,
 >;

@@ -7,7 +7,7 @@ ghost use Rattle.cd_gate.specs.TurnRule.{IsTicketOf, HasCome, GotTurn, HasDone, 
 
 use crate::journaled::Journaled;
 use crate::plays::{JoinRanges, KeepLonger, LookAtServed, ServeNext, TakeTicket};
-use crate::rule::{GateTable, TableSeat};
+use crate::rule::{GateTable, OwnTable, TableSeat};
 use std::sync::Wait;
 
 /// The ticket of the seat's next turn.
@@ -110,4 +110,18 @@ pub(crate) fn take_in<T: Journaled>(
 {
     table.join_seat::<JoinRanges>(seat, other);
     table.load::<KeepLonger>(seat, 0);
+}
+
+/// Gives the value out of a table whose numbers one seat has.
+pub(crate) fn close<T: Journaled>(table: OwnTable<T>, seat: TableSeat<T>) -> T
+    requires table { IsGateTable table.shared.table_id seat.table_id }
+    requires rests { IsResting T.number seat }
+    requires lowest { seat.me.0.lowest ≡ 0 }
+    requires end { seat.me.0.end ≡ table.shared.key.workers }
+    ensures { (T.entries result ≡ seat.me.0.seen) × (T.start result ≡ T.start table.shared.key.first.value) }
+{
+    let mut closed = table.close_with(seat);
+    let value = closed.take(0);
+    closed.free();
+    value.unwrap()
 }

@@ -18,26 +18,26 @@ use Rattle.cd_cell.proofs.Subtrees.{Contains-cases, Contains-nil}
 use Rattle.cd_cell.proofs.Distinct.{Rises, AllPairs-from_rises}
 use Rattle.cd_cell.proofs.NumberedHashes.{first-lower}
 use Rattle.cd_prepare.specs.declared.key.Rank.{Rank}
-use Rattle.cd_prepare.specs.declared.key.Key.{Key}
+use Rattle.cd_prepare.specs.declared.key.EntryKey.{EntryKey}
 use Rattle.cd_prepare.specs.Keys.{rank_cmp, AreSorted}
 
-abbrev pub key_cmp : Key → Key → Ordering
+abbrev pub key_cmp : EntryKey → EntryKey → Ordering
 key_cmp a b = ordering_then (rank_cmp a.rank b.rank) (nat_cmp a.number b.number)
 
 abbrev pub same_rank : Rank → Rank → Bool
 same_rank a b = nat_eq a.lowness b.lowness && same_hash a.hash b.hash
 
-abbrev pub same_key : Key → Key → Bool
+abbrev pub same_key : EntryKey → EntryKey → Bool
 same_key a b = same_rank a.rank b.rank
 
-abbrev by_rank : Key → Key → Ordering
+abbrev by_rank : EntryKey → EntryKey → Ordering
 by_rank a b = rank_cmp a.rank b.rank
 
 pub rank_cmp-total : IsTotalOrder rank_cmp
 rank_cmp-total = then_total (on_total (λ (r : Rank). r.lowness) nat_cmp_total) (on_total (λ (r : Rank). r.hash) hash_cmp-total)
 
 by_rank-total : IsTotalOrder by_rank
-by_rank-total = on_total (λ (k : Key). k.rank) rank_cmp-total
+by_rank-total = on_total (λ (k : EntryKey). k.rank) rank_cmp-total
 
 same_rank-Decides : (a b : Rank) → Decides (same_rank a b) (a ≡ b)
 same_rank-Decides a b = (
@@ -52,12 +52,12 @@ both-ties Less p = refl
 both-ties Equal p = refl
 both-ties Greater p = refl
 
-key-ties : (a b : Key) → same_key a b ≡ is_eq (by_rank a b)
+key-ties : (a b : EntryKey) → same_key a b ≡ is_eq (by_rank a b)
 key-ties a b =
     ap₂ (λ x y. x && y) (unsigned_ties a.rank.lowness b.rank.lowness) (texts_ties a.rank.hash.0 b.rank.hash.0)
     ∙ both-ties (nat_cmp a.rank.lowness b.rank.lowness) (hash_cmp a.rank.hash b.rank.hash)
 
-sorted-by_rank : (keys : List Key) → IsSorted key_cmp keys → IsSorted by_rank keys
+sorted-by_rank : (keys : List EntryKey) → IsSorted key_cmp keys → IsSorted by_rank keys
 sorted-by_rank keys sorted = λ k d low high. first-lower (by_rank (get_or keys (k + 1) d) (get_or keys k d)) (nat_cmp (get_or keys (k + 1) d).number (get_or keys k d).number) (sorted k d low high)
 
 from_all : {A : Type 0} (P : A → Type 0) (xs : List A) → AllByRecursion P xs → (y : A) → Contains xs y → P y
@@ -70,10 +70,10 @@ rises cmp [] up = tt
 rises cmp (x ∷ xs) up = (from_all (λ y. cmp x y ≡ Less) xs up.0, rises cmp xs up.1)
 
 same_key-laws : IsEquivalence same_key
-same_key-laws = on_equiv (λ (k : Key). k.rank) (decided same_rank same_rank-Decides)
+same_key-laws = on_equiv (λ (k : EntryKey). k.rank) (decided same_rank same_rank-Decides)
 
 -- keys that are sorted, and then freed of those of the same rank as the one before
-pub are_sorted : (old moved new : List Key) → IsPermutation old moved → IsSorted key_cmp moved → new ≡ dedup same_key moved → AreSorted old new
+pub are_sorted : (old moved new : List EntryKey) → IsPermutation old moved → IsSorted key_cmp moved → new ≡ dedup same_key moved → AreSorted old new
 are_sorted old moved new permuted sorted is = record {
   ordered = AllPairs-from_rises by_rank new (rises by_rank new (subst (IsStrictlySortedBy by_rank) (sym is) (IsStrictlySortedBy-dedup by_rank-total key-ties moved (sorted-by_rank moved sorted))));
   within = λ key h. Contains-permutation moved old key (IsPermutation-sym old moved permuted) (Contains-from_dedup same_key moved key (subst (λ ks. Contains ks key) is h));

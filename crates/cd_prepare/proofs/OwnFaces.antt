@@ -30,12 +30,16 @@ use Rattle.cd_cell.proofs.ClashLaws.{clear-clash_of}
 use Rattle.cd_update.specs.EachOnce.{each_once, first_of}
 use Rattle.cd_update.specs.Places.{Place, places}
 use Rattle.cd_update.specs.Pairing.{IsOldInfo}
-use Rattle.cd_update.specs.Grafts.{known_for, grafted_info, grafted_face, own_face_at, foreign_at}
+use Rattle.cd_update.specs.Grafts.{known_for, grafted_info, grafted_face, own_face_at, own_faces, foreign_at, foreign_hash}
 use Rattle.cd_update.proofs.EachOnceLaws.{Contains-flat_map, Contains-flat_map_cases, Contains-each_once, Contains-each_once_cases}
 use Rattle.cd_cell.proofs.ListTests.{true_or_false}
 use Rattle.cd_update.proofs.GraftInfos.{IsReady, all-ready, face-good, info-visible, graft-is, or_parts}
+use Rattle.cd_update.proofs.HalfVisits.{IsUpdateTree}
 use Rattle.cd_update.proofs.OldTrees.{mask-new, kid-half}
-use Rattle.cd_prepare.proofs.NewLists.{AreClear, HasParent}
+use Rattle.cd_cell.specs.declared.new_cell.NewCell.{NewCell}
+use Rattle.cd_cell.specs.Listings.{IsValid}
+use Rattle.cd_prepare.specs.NewCells.{AreListed}
+use Rattle.cd_prepare.proofs.NewLists.{AreClear, HasParent, IsValid-faces}
 use Rattle.cd_prepare.proofs.GraftPlaces.{is_visible, place-itself, kid-place, place-parent}
 
 -- faces without a clash
@@ -53,7 +57,16 @@ one_level k steady plain =
       steady.depths 2 (omega arith) (off 2 (omega arith)) ∙ steady.depths 1 (omega arith) (off 1 (omega arith)) ∙ steady.depths 0 (omega arith) (off 0 (omega arith)),
     )
 
-module _ (H : List ℕ → Hash256) (u : Tree) (well : IsWellFormed H u) (kind : kind_of H u ≡ Some Update) (plain : mask_of H u ≡ 0) (known : List ChildInfo) (old : All IsOldInfo known) (none : first_of (foreign_at H known) (places H (half_of u 1) 0) ≡ None) where
+module _ {H : List ℕ → Hash256} {u : Tree} (update : IsUpdateTree H u) (known : List ChildInfo) (old : All IsOldInfo known) (none : foreign_hash H known (half_of u 1) ≡ None) where
+  abbrev well : IsWellFormed H u
+  well = update.well
+
+  abbrev kind : kind_of H u ≡ Some Update
+  kind = update.kind
+
+  abbrev plain : mask_of H u ≡ 0
+  plain = update.plain
+
   abbrev half : Tree
   half = half_of u 1
 
@@ -95,7 +108,7 @@ module _ (H : List ℕ → Hash256) (u : Tree) (well : IsWellFormed H u) (kind :
         omega (arith, one.1, found.kept.depths 0 (omega arith), low),
       )
 
-  module _ (faces : List FaceView) (are : faces ≡ each_once same_face (flat_map (own_face_at H known) (places H half 0))) where
+  module _ (faces : List FaceView) (are : faces ≡ own_faces H known half) where
     own-cases : (hidden : Bool) (f g : FaceView) → Contains (if hidden then [] else g ∷ []) f → (hidden ≡ false) × (g ≡ f)
     own-cases true f g h = absurd (Contains-nil f h)
     own-cases false f g h = (refl, ⊎_elim (λ same. same) (λ later. absurd (Contains-nil f later)) (Contains-cases g [] f h))
@@ -173,3 +186,10 @@ module _ (H : List ℕ → Hash256) (u : Tree) (well : IsWellFormed H u) (kind :
 
     pub root-shown : ((g : FaceView) × Contains faces g × (info_of_face H g ≡ root)) ⊎ Contains known root
     root-shown = place-shown start (place-itself H known half 0)
+
+    -- the own cells in their order are what a prepared value keeps, below the grafted root
+    pub valid-listing : (cells : List NewCell) → AreListed H faces cells → clash_of H faces ≡ None → (r : ChildInfo) (cs : List NewCell) → r ≡ root → cs ≡ cells → IsValid H r cs
+    valid-listing cells listed clear r cs is are_cells =
+        subst (λ x. IsValid H x cs) (sym is)
+        (subst (IsValid H root) (sym are_cells)
+        (IsValid-faces H faces cells listed root good-faces steady-kids (clear-faces H faces clear) parents root-is.0 root-is.2))

@@ -1,7 +1,6 @@
 -- Laws of prepared updates: which fault comes, and what the listed cells are over an old tree.
 use Rattle.std.proofs.Common.{◌≡◌, ℕ, ◌<◌, List, length, get_or, map, AllPairs, Contains, Option, Some, None, Ok, Less, refl, ap, ap₂, sym, ◌∙◌, subst, inl, inr, ⊎_elim, ◌⊎◌, arith, [], ◌∷◌}
 use Rattle.std.specs.Option.{option_or, option_map}
-use Rattle.std.specs.List.{flat_map}
 use Rattle.std.proofs.lemmas.List.{length-map, get_or-map}
 use Rattle.std.proofs.lemmas.List.Elements.{Contains-append_left, Contains-append_right}
 use Rattle.cd_base.specs.declared.hash.Hash256.{Hash256}
@@ -26,17 +25,16 @@ use Rattle.cd_update.specs.declared.pair_fault.PairFault.{PairFault}
 use Rattle.cd_update.specs.declared.pair_fault.PairFault.TheVariants as pair
 use Rattle.cd_update.specs.declared.graft_fault.GraftFault.{GraftFault}
 use Rattle.cd_update.specs.declared.graft_fault.GraftFault.TheVariants as graft
-use Rattle.cd_update.specs.EachOnce.{each_once, first_of}
-use Rattle.cd_update.specs.Places.{places}
-use Rattle.cd_update.specs.Grafts.{own_face_at, foreign_at}
-use Rattle.cd_update.specs.Faults.{told, foreign_hash}
-use Rattle.cd_update.specs.Pairing.{tree_refusal, pair_refusal}
+use Rattle.cd_update.specs.EachOnce.{each_once}
+use Rattle.cd_update.specs.Grafts.{own_faces, foreign_hash}
+use Rattle.cd_update.specs.Answers.{refusal_of_pairing}
+use Rattle.cd_update.specs.Pairing.{met_infos, tree_refusal, pair_refusal}
 use Rattle.cd_update.proofs.EachOnceLaws.{Contains-each_once, Contains-each_once_cases}
 use Rattle.cd_prepare.specs.declared.prepare_fault.PrepareFault.{PrepareFault}
 use Rattle.cd_prepare.specs.declared.prepare_fault.PrepareFault.TheVariants.{Foreign, Memory, NewClash}
 use Rattle.cd_prepare.specs.UpdateFaults.{of_pair, of_graft}
 use Rattle.cd_prepare.specs.NewCells.{new_cell_with, AreListed}
-use Rattle.cd_prepare.specs.Applied.{fault_of, met_infos, own_faces, faces_fault, new_faces, update_fault}
+use Rattle.cd_prepare.specs.Applied.{fault_of_refusal, clash_fault, grafted_faces, faces_fault, new_faces, update_fault}
 use Rattle.cd_prepare.proofs.NewLists.{AreClear, listing_cmp-total}
 
 -- ---- which fault comes
@@ -47,67 +45,67 @@ or-regrouped None None (Some x) r = refl
 or-regrouped None (Some x) q r = refl
 or-regrouped (Some x) p q r = refl
 
-pair-told : (fault : PairFault) (o : Option UpdateRefusal) → (fault ≡ pair.Memory) ⊎ (told fault ≡ o) → (of_pair fault ≡ Memory) ⊎ (option_map fault_of o ≡ Some (of_pair fault))
-pair-told (pair.OldHash stated real) o h = ⊎_elim (λ e. absurd (cc e)) (λ e. inr (ap (option_map fault_of) (sym e))) h
-pair-told (pair.OldDepth stated real) o h = ⊎_elim (λ e. absurd (cc e)) (λ e. inr (ap (option_map fault_of) (sym e))) h
-pair-told (pair.OldHalf hash stored shown) o h = ⊎_elim (λ e. absurd (cc e)) (λ e. inr (ap (option_map fault_of) (sym e))) h
-pair-told pair.Memory o h = inl refl
+pair-fault : (fault : PairFault) (o : Option UpdateRefusal) → (fault ≡ pair.Memory) ⊎ (refusal_of_pairing fault ≡ o) → (of_pair fault ≡ Memory) ⊎ (option_map fault_of_refusal o ≡ Some (of_pair fault))
+pair-fault (pair.OldHash stated real) o h = ⊎_elim (λ e. absurd (cc e)) (λ e. inr (ap (option_map fault_of_refusal) (sym e))) h
+pair-fault (pair.OldDepth stated real) o h = ⊎_elim (λ e. absurd (cc e)) (λ e. inr (ap (option_map fault_of_refusal) (sym e))) h
+pair-fault (pair.OldHalf hash stored shown) o h = ⊎_elim (λ e. absurd (cc e)) (λ e. inr (ap (option_map fault_of_refusal) (sym e))) h
+pair-fault pair.Memory o h = inl refl
 
-first-mapped : (o r : Option UpdateRefusal) (later : Option PrepareFault) (fault : PrepareFault) → option_map fault_of o ≡ Some fault → option_or (option_map fault_of (option_or o r)) later ≡ Some fault
+-- a fault of grafting has the hash of the first hidden cell that isn't known
+graft-fault : (o : Option Hash256) (fault : GraftFault) → (fault ≡ graft.Memory) ⊎ (option_map graft.Foreign o ≡ Some fault) → (of_graft fault ≡ Memory) ⊎ (option_map (λ hash. Foreign hash) o ≡ Some (of_graft fault))
+graft-fault o fault (inl e) = inl (ap of_graft e)
+graft-fault None fault (inr e) = absurd (cc e)
+graft-fault (Some hash) fault (inr e) = let same : graft.Foreign hash ≡ fault = cc e in inr (ap (λ f. Some (of_graft f)) same)
+
+first-mapped : (o r : Option UpdateRefusal) (later : Option PrepareFault) (fault : PrepareFault) → option_map fault_of_refusal o ≡ Some fault → option_or (option_map fault_of_refusal (option_or o r)) later ≡ Some fault
 first-mapped None r later fault e = absurd (cc e)
 first-mapped (Some x) r later fault e = e
+
+foreign-mapped : (o : Option Hash256) (later : Option PrepareFault) (fault : PrepareFault) → option_map (λ hash. Foreign hash) o ≡ Some fault → option_or (option_map fault_of_refusal (option_map (λ x. foreign x) o)) later ≡ Some fault
+foreign-mapped None later fault e = absurd (cc e)
+foreign-mapped (Some hash) later fault e = e
 
 module _ (H : List ℕ → Hash256) (u t : Tree) where
   regrouped : refusal_of H u t ≡ option_or (tree_refusal H u t) (graft_refusal H u t)
   regrouped = or-regrouped (hash_refusal H u t) (depth_refusal H u t) (half_refusal H u t) (graft_refusal H u t)
 
-  pub answer-pair : (fault : PairFault) (answer : PrepareFault) → answer ≡ of_pair fault → (fault ≡ pair.Memory) ⊎ (told fault ≡ tree_refusal H u t) → (answer ≡ Memory) ⊎ (update_fault H u t ≡ Some answer)
+  pub answer-pair : (fault : PairFault) (answer : PrepareFault) → answer ≡ of_pair fault → (fault ≡ pair.Memory) ⊎ (refusal_of_pairing fault ≡ tree_refusal H u t) → (answer ≡ Memory) ⊎ (update_fault H u t ≡ Some answer)
   answer-pair fault answer is h =
       subst (λ a. (a ≡ Memory) ⊎ (update_fault H u t ≡ Some a)) (sym is)
       (⊎_elim
       inl
       (λ e.
       inr
-      (ap (λ o. option_or (option_map fault_of o) (option_map (λ hash. NewClash hash) (clash_of H (new_faces H u t)))) regrouped
-      ∙ first-mapped (tree_refusal H u t) (graft_refusal H u t) (option_map (λ hash. NewClash hash) (clash_of H (new_faces H u t))) (of_pair fault) e))
-      (pair-told fault (tree_refusal H u t) h))
+      (ap (λ o. option_or (option_map fault_of_refusal o) (clash_fault H (new_faces H u t))) regrouped
+      ∙ first-mapped (tree_refusal H u t) (graft_refusal H u t) (clash_fault H (new_faces H u t)) (of_pair fault) e))
+      (pair-fault fault (tree_refusal H u t) h))
 
   module _ (paired : tree_refusal H u t ≡ None) where
     refused : refusal_of H u t ≡ graft_refusal H u t
     refused = regrouped ∙ ap (λ o. option_or o (graft_refusal H u t)) paired
 
-    pub answer-graft : (fault : GraftFault) (answer : PrepareFault) → answer ≡ of_graft fault → (fault ≡ graft.Memory) ⊎ (foreign_hash fault ≡ first_foreign H (found_in H (known_of H u t)) (half_of u 1) 0) → (answer ≡ Memory) ⊎ (update_fault H u t ≡ Some answer)
-    answer-graft fault answer is h = subst (λ a. (a ≡ Memory) ⊎ (update_fault H u t ≡ Some a)) (sym is) (go fault h)
-      where
-        go : (fault : GraftFault) → (fault ≡ graft.Memory) ⊎ (foreign_hash fault ≡ first_foreign H (found_in H (known_of H u t)) (half_of u 1) 0) → (of_graft fault ≡ Memory) ⊎ (update_fault H u t ≡ Some (of_graft fault))
-        go (graft.Foreign hash) h =
-            ⊎_elim
-            (λ e. absurd (cc e))
-            (λ e.
-            inr
-            (ap (λ o. option_or (option_map fault_of o) (option_map (λ hash. NewClash hash) (clash_of H (new_faces H u t)))) (refused ∙ ap (option_map (λ x. foreign x)) (sym e))))
-            h
-        go graft.Memory h = inl refl
+    pub answer-graft : (fault : GraftFault) (answer : PrepareFault) → answer ≡ of_graft fault → (fault ≡ graft.Memory) ⊎ (option_map graft.Foreign (first_foreign H (found_in H (known_of H u t)) (half_of u 1) 0) ≡ Some fault) → (answer ≡ Memory) ⊎ (update_fault H u t ≡ Some answer)
+    answer-graft fault answer is h =
+        let hash = first_foreign H (found_in H (known_of H u t)) (half_of u 1) 0 in
+        subst (λ a. (a ≡ Memory) ⊎ (update_fault H u t ≡ Some a)) (sym is)
+        (⊎_elim
+        inl
+        (λ e. inr (ap (λ o. option_or (option_map fault_of_refusal o) (clash_fault H (new_faces H u t))) refused ∙ foreign-mapped hash (clash_fault H (new_faces H u t)) (of_graft fault) e))
+        (graft-fault hash fault h))
 
     module _ (none : first_foreign H (found_in H (known_of H u t)) (half_of u 1) 0 ≡ None) where
       pub no-refusal : refusal_of H u t ≡ None
       no-refusal = refused ∙ ap (option_map (λ x. foreign x)) none
 
-      fault-is : update_fault H u t ≡ option_map (λ hash. NewClash hash) (clash_of H (new_faces H u t))
-      fault-is = ap (λ o. option_or (option_map fault_of o) (option_map (λ hash. NewClash hash) (clash_of H (new_faces H u t)))) no-refusal
+      fault-is : update_fault H u t ≡ clash_fault H (new_faces H u t)
+      fault-is = ap (λ o. option_or (option_map fault_of_refusal o) (clash_fault H (new_faces H u t))) no-refusal
 
       module _ (faces : List FaceView) (are : faces ≡ new_faces H u t) where
-        pub answer-none : clash_of H faces ≡ None → update_fault H u t ≡ None
-        answer-none e = fault-is ∙ ap (λ fs. option_map (λ hash. NewClash hash) (clash_of H fs)) (sym are) ∙ ap (option_map (λ hash. NewClash hash)) e
+        pub answer-none : clash_fault H faces ≡ None → update_fault H u t ≡ None
+        answer-none e = fault-is ∙ ap (clash_fault H) (sym are) ∙ e
 
-        pub answer-clash : (fault : PrepareFault) → (fault ≡ Memory) ⊎ ((hash : Hash256) × (clash_of H faces ≡ Some hash) × (fault ≡ NewClash hash)) → (fault ≡ Memory) ⊎ (update_fault H u t ≡ Some fault)
-        answer-clash fault h =
-            ⊎_elim
-            inl
-            (λ c.
-            inr
-            (fault-is ∙ ap (λ fs. option_map (λ hash. NewClash hash) (clash_of H fs)) (sym are) ∙ ap (option_map (λ hash. NewClash hash)) c.1 ∙ ap Some (sym c.2)))
-            h
+        pub answer-clash : (fault : PrepareFault) → (fault ≡ Memory) ⊎ (clash_fault H faces ≡ Some fault) → (fault ≡ Memory) ⊎ (update_fault H u t ≡ Some fault)
+        answer-clash fault h = ⊎_elim inl (λ e. inr (fault-is ∙ ap (clash_fault H) (sym are) ∙ e)) h
 
       pub applied-is : applied H u t ≡ Ok (grafted H (found_in H (known_of H u t)) (half_of u 1) 0)
       applied-is = ap (λ o. or_refused o (grafted H (found_in H (known_of H u t)) (half_of u 1) 0)) no-refusal
@@ -126,40 +124,45 @@ first-some : {A : Type 0} (o p : Option A) (x : A) → o ≡ Some x → option_o
 first-some o p x e = ap (λ q. option_or q p) e
 
 module _ (H : List ℕ → Hash256) (u : Tree) (root : ChildInfo) (faces : List (Option FaceView)) where
-  pub told-pair : (fault : PairFault) (answer : PrepareFault) → answer ≡ of_pair fault → (fault ≡ pair.Memory) ⊎ (told fault ≡ pair_refusal H u root faces) → (answer ≡ Memory) ⊎ (faces_fault H u root faces ≡ Some answer)
-  told-pair fault answer is h =
+  pub refused-pair : (fault : PairFault) (answer : PrepareFault) → answer ≡ of_pair fault → (fault ≡ pair.Memory) ⊎ (refusal_of_pairing fault ≡ pair_refusal H u root faces) → (answer ≡ Memory) ⊎ (faces_fault H u root faces ≡ Some answer)
+  refused-pair fault answer is h =
       subst (λ a. (a ≡ Memory) ⊎ (faces_fault H u root faces ≡ Some a)) (sym is)
-      (⊎_elim inl (λ e. inr (first-some (option_map fault_of (pair_refusal H u root faces)) _ (of_pair fault) e)) (pair-told fault (pair_refusal H u root faces) h))
+      (⊎_elim inl (λ e. inr (first-some (option_map fault_of_refusal (pair_refusal H u root faces)) _ (of_pair fault) e)) (pair-fault fault (pair_refusal H u root faces) h))
 
-  module _ (paired : pair_refusal H u root faces ≡ None) (known : List ChildInfo) (met : known ≡ met_infos H u) where
-    unpaired : faces_fault H u root faces ≡ option_or (option_map (λ hash. Foreign hash) (first_of (foreign_at H known) (places H (half_of u 1) 0))) (option_map (λ hash. NewClash hash) (clash_of H (each_once same_face (flat_map (own_face_at H known) (places H (half_of u 1) 0)))))
+  module _ (paired : pair_refusal H u root faces ≡ None) (known : List ChildInfo) (met : known ≡ met_infos H (half_of u 0)) where
+    unpaired : faces_fault H u root faces ≡ option_or (option_map (λ hash. Foreign hash) (foreign_hash H known (half_of u 1))) (clash_fault H (own_faces H known (half_of u 1)))
     unpaired =
-        ap (λ o. option_or (option_map fault_of o) (option_or (option_map (λ hash. Foreign hash) (first_of (foreign_at H (met_infos H u)) (places H (half_of u 1) 0))) (option_map (λ hash. NewClash hash) (clash_of H (own_faces H u))))) paired
-        ∙ ap (λ ks. option_or (option_map (λ hash. Foreign hash) (first_of (foreign_at H ks) (places H (half_of u 1) 0))) (option_map (λ hash. NewClash hash) (clash_of H (each_once same_face (flat_map (own_face_at H ks) (places H (half_of u 1) 0)))))) (sym met)
+        ap (λ o. option_or (option_map fault_of_refusal o) (option_or (option_map (λ hash. Foreign hash) (foreign_hash H (met_infos H (half_of u 0)) (half_of u 1))) (clash_fault H (grafted_faces H u)))) paired
+        ∙ ap (λ ks. option_or (option_map (λ hash. Foreign hash) (foreign_hash H ks (half_of u 1))) (clash_fault H (own_faces H ks (half_of u 1)))) (sym met)
 
-    pub told-graft : (fault : GraftFault) (answer : PrepareFault) → answer ≡ of_graft fault → (fault ≡ graft.Memory) ⊎ (foreign_hash fault ≡ first_of (foreign_at H known) (places H (half_of u 1) 0)) → (answer ≡ Memory) ⊎ (faces_fault H u root faces ≡ Some answer)
-    told-graft fault answer is h = subst (λ a. (a ≡ Memory) ⊎ (faces_fault H u root faces ≡ Some a)) (sym is) (go fault h)
-      where
-        go : (fault : GraftFault) → (fault ≡ graft.Memory) ⊎ (foreign_hash fault ≡ first_of (foreign_at H known) (places H (half_of u 1) 0)) → (of_graft fault ≡ Memory) ⊎ (faces_fault H u root faces ≡ Some (of_graft fault))
-        go (graft.Foreign hash) h =
-            ⊎_elim
-            (λ e. absurd (cc e))
-            (λ e. inr (unpaired ∙ first-some (option_map (λ hash. Foreign hash) (first_of (foreign_at H known) (places H (half_of u 1) 0))) _ (Foreign hash) (ap (option_map (λ hash. Foreign hash)) (sym e))))
-            h
-        go graft.Memory h = inl refl
+    pub refused-graft : (fault : GraftFault) (answer : PrepareFault) → answer ≡ of_graft fault → (fault ≡ graft.Memory) ⊎ (option_map graft.Foreign (foreign_hash H known (half_of u 1)) ≡ Some fault) → (answer ≡ Memory) ⊎ (faces_fault H u root faces ≡ Some answer)
+    refused-graft fault answer is h =
+        subst (λ a. (a ≡ Memory) ⊎ (faces_fault H u root faces ≡ Some a)) (sym is)
+        (⊎_elim
+        inl
+        (λ e. inr (unpaired ∙ first-some (option_map (λ hash. Foreign hash) (foreign_hash H known (half_of u 1))) _ (of_graft fault) e))
+        (graft-fault (foreign_hash H known (half_of u 1)) fault h))
 
-    module _ (none : first_of (foreign_at H known) (places H (half_of u 1) 0) ≡ None) (own : List FaceView) (are : own ≡ each_once same_face (flat_map (own_face_at H known) (places H (half_of u 1) 0))) where
-      clash-is : faces_fault H u root faces ≡ option_map (λ hash. NewClash hash) (clash_of H own)
+    module _ (none : foreign_hash H known (half_of u 1) ≡ None) (own : List FaceView) (are : own ≡ own_faces H known (half_of u 1)) where
+      clash-is : faces_fault H u root faces ≡ clash_fault H own
       clash-is =
           unpaired
-          ∙ ap (λ o. option_or (option_map (λ hash. Foreign hash) o) (option_map (λ hash. NewClash hash) (clash_of H (each_once same_face (flat_map (own_face_at H known) (places H (half_of u 1) 0)))))) none
-          ∙ ap (λ fs. option_map (λ hash. NewClash hash) (clash_of H fs)) (sym are)
+          ∙ ap (λ o. option_or (option_map (λ hash. Foreign hash) o) (clash_fault H (own_faces H known (half_of u 1)))) none
+          ∙ ap (clash_fault H) (sym are)
 
-      pub told-none : clash_of H own ≡ None → faces_fault H u root faces ≡ None
-      told-none e = clash-is ∙ ap (option_map (λ hash. NewClash hash)) e
+      pub refused-none : clash_fault H own ≡ None → faces_fault H u root faces ≡ None
+      refused-none e = clash-is ∙ e
 
-      pub told-clash : (fault : PrepareFault) → (fault ≡ Memory) ⊎ ((hash : Hash256) × (clash_of H own ≡ Some hash) × (fault ≡ NewClash hash)) → (fault ≡ Memory) ⊎ (faces_fault H u root faces ≡ Some fault)
-      told-clash fault h = ⊎_elim inl (λ c. inr (clash-is ∙ ap (option_map (λ hash. NewClash hash)) c.1 ∙ ap Some (sym c.2))) h
+      pub refused-clash : (fault : PrepareFault) → (fault ≡ Memory) ⊎ (clash_fault H own ≡ Some fault) → (fault ≡ Memory) ⊎ (faces_fault H u root faces ≡ Some fault)
+      refused-clash fault h = ⊎_elim inl (λ e. inr (clash-is ∙ e)) h
+
+-- without a clash there is no fault
+pub clash-none : (H : List ℕ → Hash256) (faces : List FaceView) → clash_fault H faces ≡ None → clash_of H faces ≡ None
+clash-none H faces e = unmapped (clash_of H faces) e
+  where
+    unmapped : (o : Option Hash256) → option_map (λ hash. NewClash hash) o ≡ None → o ≡ None
+    unmapped None e = refl
+    unmapped (Some hash) e = absurd (cc e)
 
 -- ---- the listed cells are the new ones
 

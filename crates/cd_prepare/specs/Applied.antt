@@ -1,47 +1,53 @@
--- Updates applied to an old tree, and what preparing one answers.
-use Rattle.std.specs.Prelude.{◌≡◌, ℕ, List, ◌∷◌, map, Option, Some, Ok, []}
+-- Trusted: updates applied to an old tree, and what preparing one answers.
+use Rattle.std.specs.Prelude.{◌≡◌, ℕ, List, [], ◌∷◌, map, Option, Some, Ok}
 use Rattle.std.specs.Option.{option_or, option_map}
-use Rattle.std.specs.List.{flat_map}
 use Rattle.cd_base.specs.declared.hash.Hash256.{Hash256}
 use Rattle.cd_cell.specs.declared.info.ChildInfo.{ChildInfo}
 use Rattle.cd_cell.specs.declared.new_cell.NewCell.{NewCell}
 use Rattle.cd_cell.specs.FaceView.{FaceView}
+use Rattle.cd_cell.specs.Levels.{stated_hash}
 use Rattle.cd_cell.specs.Tree.{Tree, info_of, face_of}
-use Rattle.cd_cell.specs.Equality.{same_face, same_info}
+use Rattle.cd_cell.specs.Equality.{same_face}
 use Rattle.cd_cell.specs.Export.{export_cmp, sorted_distinct, AreClashFree}
 use Rattle.cd_cell.specs.Listings.{new_cell_of, Fits, tree_of}
 use Rattle.cd_cell.specs.Updates.{UpdateRefusal, old_hash, old_depth, old_half, foreign, half_of, refusal_of, applied, new_cells}
 use Rattle.cd_cell.specs.Clashes.{clash_of}
-use Rattle.cd_update.specs.EachOnce.{each_once, first_of}
-use Rattle.cd_update.specs.Places.{places}
-use Rattle.cd_update.specs.Pairing.{known_at, pair_refusal}
-use Rattle.cd_update.specs.Grafts.{own_face_at, foreign_at}
+use Rattle.cd_update.specs.EachOnce.{each_once}
+use Rattle.cd_update.specs.Pairing.{met_infos, pair_refusal}
+use Rattle.cd_update.specs.Grafts.{own_faces, foreign_hash}
 use Rattle.cd_prepare.specs.declared.prepare_fault.PrepareFault.{PrepareFault}
 use Rattle.cd_prepare.specs.declared.prepare_fault.PrepareFault.TheVariants.{OldHash, OldDepth, OldHalf, Foreign, NewClash}
 
-abbrev pub fault_of : UpdateRefusal → PrepareFault
-fault_of (old_hash stated real) = OldHash stated real
-fault_of (old_depth stated real) = OldDepth stated real
-fault_of (old_half misfit) = OldHalf misfit.hash misfit.stored misfit.shown
-fault_of (foreign hash) = Foreign hash
+abbrev pub fault_of_refusal : UpdateRefusal → PrepareFault
+fault_of_refusal (old_hash stated real) = OldHash stated real
+fault_of_refusal (old_depth stated real) = OldDepth stated real
+fault_of_refusal (old_half misfit) = OldHalf misfit.hash misfit.stored misfit.shown
+fault_of_refusal (foreign hash) = Foreign hash
+
+-- the least hash that two different new cells share
+abbrev pub clash_fault : (List ℕ → Hash256) → List FaceView → Option PrepareFault
+clash_fault H faces = option_map (λ hash. NewClash hash) (clash_of H faces)
 
 -- ---- by the faces that stand beside the wanted hashes
 
 module _ (H : List ℕ → Hash256) (u : Tree) where
-  -- what the old half meets, by what its places show
-  abbrev pub met_infos : List ChildInfo
-  met_infos = each_once same_info (flat_map (known_at H) (places H (half_of u 0) 0))
+  -- the hashes that an update states of the old tree and of the new one
+  abbrev pub stated_old : Hash256
+  stated_old = stated_hash (face_of H u) 1
 
-  -- the faces of the new half's own cells over it
-  abbrev pub own_faces : List FaceView
-  own_faces = each_once same_face (flat_map (own_face_at H met_infos) (places H (half_of u 1) 0))
+  abbrev pub stated_new : Hash256
+  stated_new = stated_hash (face_of H u) 33
 
-  -- why an update isn't prepared: the first refusal, or else the least hash that two different own cells share
+  -- the faces of the new half's own cells over what the old half meets
+  abbrev pub grafted_faces : List FaceView
+  grafted_faces = own_faces H (met_infos H (half_of u 0)) (half_of u 1)
+
+  -- why an update isn't prepared: the first refusal, or else a clash of two own cells
   abbrev pub faces_fault : ChildInfo → List (Option FaceView) → Option PrepareFault
   faces_fault root faces =
-      option_or (option_map fault_of (pair_refusal H u root faces))
-      (option_or (option_map (λ hash. Foreign hash) (first_of (foreign_at H met_infos) (places H (half_of u 1) 0)))
-      (option_map (λ hash. NewClash hash) (clash_of H own_faces)))
+      option_or (option_map fault_of_refusal (pair_refusal H u root faces))
+      (option_or (option_map (λ hash. Foreign hash) (foreign_hash H (met_infos H (half_of u 0)) (half_of u 1)))
+      (clash_fault H grafted_faces))
 
 -- ---- over an old tree
 
@@ -50,14 +56,13 @@ module _ (H : List ℕ → Hash256) (u t : Tree) where
   abbrev pub new_faces : List FaceView
   new_faces = each_once same_face (map (face_of H) (new_cells H u t))
 
-  -- why an update isn't prepared over an old tree: the first refusal, or else the least hash that two different new
-  -- cells share
+  -- why an update isn't prepared over an old tree: the first refusal, or else a clash of two new cells
   abbrev pub update_fault : Option PrepareFault
-  update_fault = option_or (option_map fault_of (refusal_of H u t)) (option_map (λ hash. NewClash hash) (clash_of H new_faces))
+  update_fault = option_or (option_map fault_of_refusal (refusal_of H u t)) (clash_fault H new_faces)
 
   -- a root and listed cells are those of the update applied to the old tree: they fit over that, and stand for the new
   -- tree where the old tree and the new cells together are free of clashes
-  pub record IsApplied (root : ChildInfo) (cells : List NewCell) : Type 0 where
+  pub record IsUpdateApplied (root : ChildInfo) (cells : List NewCell) : Type 0 where
     pub tree : Tree
     pub is_applied : applied H u t ≡ Ok tree
     pub root_is : root ≡ info_of H tree

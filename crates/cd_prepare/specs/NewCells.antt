@@ -1,4 +1,4 @@
--- Own cells of an update by their faces, listed in the order of an export.
+-- Inner: own cells of an update by their faces, listed in the order of an export.
 use Rattle.std.specs.Prelude.{◌≡◌, ℕ, ◌<◌, List, length, slice_index_or, Contains, AllPairs}
 use Rattle.std.specs.declared.cmp.Ordering.TheVariants.{Less}
 use Rattle.cd_base.specs.declared.hash.Hash256.{Hash256}
@@ -8,13 +8,13 @@ use Rattle.cd_cell.specs.FaceView.{FaceView}
 use Rattle.cd_cell.specs.CellFaults.{no_info}
 use Rattle.cd_cell.specs.Levels.{rep_of_face}
 use Rattle.cd_cell.specs.Listings.{listing_cmp}
-use Rattle.cd_prepare.specs.declared.key.Key.{Key}
-use Rattle.cd_prepare.specs.Keys.{key_of}
+use Rattle.cd_prepare.specs.declared.key.EntryKey.{EntryKey}
+use Rattle.cd_prepare.specs.Keys.{entry_key}
 
 -- the keys of cells by what they show, in their places
-pub record AreKeys (infos : List ChildInfo) (keys : List Key) (count : ℕ) : Type 0 where
+pub record AreKeys (infos : List ChildInfo) (keys : List EntryKey) (count : ℕ) : Type 0 where
   pub counted : length keys ≡ count
-  pub made : (k : ℕ) (d : Key) → k < count → slice_index_or keys k d ≡ key_of (slice_index_or infos k no_info) k
+  pub made : (k : ℕ) (d : EntryKey) → k < count → slice_index_or keys k d ≡ entry_key (slice_index_or infos k no_info) k
 
 -- a face as it is listed
 abbrev pub new_cell_with : (List ℕ → Hash256) → FaceView → NewCell

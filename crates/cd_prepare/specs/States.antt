@@ -1,4 +1,4 @@
--- States that a bag has whole, and what preparing one answers.
+-- Trusted: states that a bag has whole, and what preparing one answers.
 use Rattle.std.specs.Prelude.{◌≡◌, ◌⊎◌, ℕ, ◌-◌, ◌^◌, List, [], ◌∷◌, length, map, min, nat_eq, if◌then◌else◌, Option, Some, None, Result, Ok, Err}
 use Rattle.cd_base.specs.declared.hash.Hash256.{Hash256}
 use Rattle.cd_cell.specs.declared.info.ChildInfo.{ChildInfo}
@@ -10,15 +10,15 @@ use Rattle.cd_prepare.specs.declared.prepare_fault.PrepareFault.{PrepareFault}
 use Rattle.cd_prepare.specs.declared.prepare_fault.PrepareFault.TheVariants.{Roots, Level, Memory}
 
 -- the number of some trees, which stands still at the last u32
-abbrev pub count_of : List Tree → ℕ
-count_of trees = min (length trees) (2 ^ 32 - 1)
+abbrev pub root_count : List Tree → ℕ
+root_count trees = min (length trees) (2 ^ 32 - 1)
 
 module _ (H : List ℕ → Hash256) where
   -- why the trees of a bag's roots are no state, if they aren't: a state is one tree of mask 0
   abbrev pub state_fault : List Tree → Option PrepareFault
   state_fault [] = Some (Roots 0)
   state_fault (t ∷ []) = if nat_eq (mask_of H t) 0 then None else Some (Level (mask_of H t))
-  state_fault (t ∷ u ∷ ts) = Some (Roots (count_of (t ∷ u ∷ ts)))
+  state_fault (t ∷ u ∷ ts) = Some (Roots (root_count (t ∷ u ∷ ts)))
 
   -- a root and listed cells are those of a whole tree: they fit without an old tree, and stand for it
   pub record IsWhole (t : Tree) (root : ChildInfo) (cells : List NewCell) : Type 0 where

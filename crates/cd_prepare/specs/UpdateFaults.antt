@@ -1,4 +1,4 @@
--- Faults of pairing and grafting as faults of preparing.
+-- Trusted: faults of pairing and grafting as faults of preparing.
 use Rattle.cd_update.specs.declared.pair_fault.PairFault.{PairFault}
 use Rattle.cd_update.specs.declared.pair_fault.PairFault.TheVariants as pair
 use Rattle.cd_update.specs.declared.graft_fault.GraftFault.{GraftFault}

@@ -1,5 +1,5 @@
 ghost use Rattle.std.specs.Prelude.{◌≡◌};
-ghost use Rattle.cd_prepare.specs.Keys.{key_of};
+ghost use Rattle.cd_prepare.specs.Keys.{entry_key};
 
 use cd_base::Hash256;
 use cd_cell::ChildInfo;
@@ -14,18 +14,18 @@ pub struct Rank {
 
 /// An entry of a bag, sorted by the rank of its cell.
 #[derive(Clone, Copy, PartialEq, Eq, PartialOrd, Ord)]
-pub struct Key {
+pub struct EntryKey {
     pub rank: Rank,
     /// The number of the entry.
     pub number: u32,
 }
 
-impl Key {
+impl EntryKey {
     /// The key of an entry whose cell shows this.
-    pub fn of(info: &ChildInfo, number: u32) -> Key
-        ensures { result ≡ key_of info.now number }
+    pub fn of(info: &ChildInfo, number: u32) -> EntryKey
+        ensures { result ≡ entry_key info.now number }
     {
-        Key {
+        EntryKey {
             rank: Rank {
                 lowness: u16::MAX - info.height(),
                 hash: info.rep(),

@@ -1,8 +1,8 @@
 ghost use Rattle.std.specs.Prelude.{◌≡◌, ◌<◌, false, true, [], length, replicate, slice_set, IfOk, OnOk};
-ghost use Rattle.cd_prepare.specs.Keys.{key_of};
+ghost use Rattle.cd_prepare.specs.Keys.{entry_key};
 ghost use Rattle.cd_prepare.specs.Reached.{keys_with, AreReached};
 
-use crate::key::Key;
+use crate::key::EntryKey;
 use crate::start::Start;
 use cd_cell::{ChildInfo, Hash32};
 use std::alloc::{AllocError, Global};
@@ -13,7 +13,7 @@ struct Reached {
     /// For each entry whether it is reached.
     marks: Vec<bool>,
     /// The key of each entry that is reached.
-    keys: Vec<Key>,
+    keys: Vec<EntryKey>,
 }
 
 impl Reached {
@@ -32,10 +32,11 @@ impl Reached {
     fn mark(&mut self, info: &ChildInfo, number: u32) -> Result<(), AllocError>
         requires { number < length self.old.marks.items }
         ensures marks { OnOk result (self.new.marks.items ≡ slice_set self.old.marks.items number true) }
-        ensures keys { OnOk result (self.new.keys.items ≡ keys_with self.old.marks.items self.old.keys.items (key_of info.now number)) }
+        ensures keys { OnOk result (self.new.keys.items
+            ≡ keys_with self.old.marks.items self.old.keys.items (entry_key info.now number)) }
     {
         if !self.marks[number as usize] {
-            self.keys.push(Key::of(info, number))?;
+            self.keys.push(EntryKey::of(info, number))?;
         }
         self.marks[number as usize] = true;
         Ok(())
@@ -44,7 +45,7 @@ impl Reached {
 
 /// The key of each entry that a root leads to, and of the root itself. The entries are gone over from the root to the
 /// last one, since the children of an entry stand behind it.
-pub fn reach<H: Hash32>(alloc: Global, root: &Start<'_, H>) -> Result<Vec<Key>, AllocError>
+pub fn reach<H: Hash32>(alloc: Global, root: &Start<'_, H>) -> Result<Vec<EntryKey>, AllocError>
     ensures { IfOk result (λ keys. AreReached H.digest_of root.now.bag.now.cells root.now.bag.now.refs root.now.number keys.items) }
 {
     let cells = root.bag.cells();

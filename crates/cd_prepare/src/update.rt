@@ -1,39 +1,38 @@
-ghost use Rattle.std.specs.Prelude.{◌≡◌, ◌⊎◌, ◌<◌, ◌^◌, length, map, Contains, Some, None, IfOk, MatchResult};
-ghost use Rattle.cd_base.specs.declared.hash.Hash256.{Hash256};
+ghost use Rattle.std.specs.Prelude.{◌≡◌, ◌<◌, ◌^◌, length, map, Contains, Some, None, IfOk};
 ghost use Rattle.cd_cell.specs.FaceView.{FaceView};
 ghost use Rattle.cd_cell.specs.Infos.{rep_of_info};
-ghost use Rattle.cd_cell.specs.Levels.{info_of_face, stated_hash};
+ghost use Rattle.cd_cell.specs.Levels.{info_of_face};
 ghost use Rattle.cd_cell.specs.GoodFace.{IsGoodFace};
-ghost use Rattle.cd_cell.specs.Tree.{Tree, face_of};
-ghost use Rattle.cd_cell.specs.Bags.{bag_tree};
+ghost use Rattle.cd_cell.specs.Tree.{Tree};
+ghost use Rattle.cd_cell.specs.Listings.{IsValid};
 ghost use Rattle.cd_cell.specs.Clashes.{clash_of};
 ghost use Rattle.cd_update.specs.Pairing.{AreOf};
+ghost use Rattle.cd_update.specs.UpdateTrees.{tree_of};
 ghost use Rattle.cd_prepare.specs.NewCells.{AreKeys, AreListed};
 ghost use Rattle.cd_prepare.specs.States.{Answers};
-ghost use Rattle.cd_prepare.specs.Applied.{faces_fault, update_fault, IsApplied};
+ghost use Rattle.cd_prepare.specs.Applied.{stated_old, stated_new, clash_fault, faces_fault, update_fault, IsUpdateApplied};
 
 use crate::PrepareFault;
-use crate::key::Key;
+use crate::key::EntryKey;
 use crate::listing::{cells_of, sort};
-use cd_cell::least_clash;
-use cd_cell::{ChildInfo, Face, Hash32, NewCell, Prepared};
+use cd_cell::{ChildInfo, Face, Hash32, NewCell, Prepared, least_clash};
 use cd_update::{Update, graft, pair_old};
 use std::alloc::{AllocError, Global};
 
 /// The keys of cells by what they show.
-fn keys_of(alloc: Global, infos: &[ChildInfo]) -> Result<Vec<Key>, AllocError>
+fn keys_of(alloc: Global, infos: &[ChildInfo]) -> Result<Vec<EntryKey>, AllocError>
     requires { length infos.now < 2 ^ 32 }
     ensures { IfOk result (λ keys. AreKeys infos.now keys.items (length infos.now)) }
 {
     let mut keys = Vec::with_capacity(alloc, infos.len())?;
     for (number, info) in infos.iter().enumerate() {
-        keys.push(Key::of(info, number as u32))?;
+        keys.push(EntryKey::of(info, number as u32))?;
     }
     Ok(keys)
 }
 
 /// Cells without clashes in the order of an export.
-fn listed<H: Hash32>(
+fn listing_of<H: Hash32>(
     alloc: Global,
     faces: &[Face],
     infos: &[ChildInfo],
@@ -57,8 +56,7 @@ fn new_cells<H: Hash32>(
 ) -> Result<Vec<NewCell>, PrepareFault>
     requires shown { infos.now ≡ map (info_of_face H.digest_of) faces.now }
     requires good { (face : FaceView) → Contains faces.now face → IsGoodFace face }
-    ensures exact { MatchResult result (λ _. clash_of H.digest_of faces.now ≡ None)
-        (λ fault. (fault ≡ PrepareFault.Memory) ⊎ ((hash : Hash256) × (clash_of H.digest_of faces.now ≡ Some hash) × (fault ≡ PrepareFault.NewClash hash))) }
+    ensures exact { Answers (clash_fault H.digest_of faces.now) result }
     ensures cells { IfOk result (λ cells. AreListed H.digest_of faces.now cells.items) }
 {
     if infos.len() > u32::MAX as usize {
@@ -69,7 +67,7 @@ fn new_cells<H: Hash32>(
         Ok(Some(hash)) => return Err(PrepareFault::NewClash { hash }),
         Err(_) => return Err(PrepareFault::Memory),
     }
-    match listed::<H>(alloc, faces, infos) {
+    match listing_of::<H>(alloc, faces, infos) {
         Ok(cells) => Ok(cells),
         Err(_) => Err(PrepareFault::Memory),
     }
@@ -83,14 +81,18 @@ pub fn prepare_update<H: Hash32>(
     root: &ChildInfo,
     faces: &[Option<Face>],
 ) -> Result<Prepared<H>, PrepareFault>
-    ensures old { IfOk result (λ value. value.old ≡ Some (stated_hash (face_of H.digest_of (bag_tree update.now.bag.now update.now.root)) 1)) }
-    ensures rep { IfOk result (λ value. rep_of_info value.root ≡ stated_hash (face_of H.digest_of (bag_tree update.now.bag.now update.now.root)) 33) }
-    ensures told { Answers (faces_fault H.digest_of (bag_tree update.now.bag.now update.now.root) root.now faces.now) result }
+    ensures old { IfOk result (λ value. value.old ≡ Some (stated_old H.digest_of (tree_of update.now))) }
+    ensures rep { IfOk result (λ value. rep_of_info value.root ≡ stated_new H.digest_of (tree_of update.now)) }
+    ensures refused { Answers (faces_fault H.digest_of (tree_of update.now) root.now faces.now) result }
+
     // Over an old tree the answer is that of the tree.
-    ensures exact { (t : Tree) → AreOf H.digest_of t (bag_tree update.now.bag.now update.now.root) root.now faces.now
-        → Answers (update_fault H.digest_of (bag_tree update.now.bag.now update.now.root) t) result }
-    ensures applied { IfOk result (λ value. (t : Tree) → AreOf H.digest_of t (bag_tree update.now.bag.now update.now.root) root.now faces.now
-        → IsApplied H.digest_of (bag_tree update.now.bag.now update.now.root) t value.root value.cells) }
+    ensures exact { (t : Tree) → AreOf H.digest_of t (tree_of update.now) root.now faces.now
+        → Answers (update_fault H.digest_of (tree_of update.now) t) result }
+    ensures applied { (t : Tree) → AreOf H.digest_of t (tree_of update.now) root.now faces.now
+        → IfOk result (λ value. IsUpdateApplied H.digest_of (tree_of update.now) t value.root value.cells) }
+
+    // What is prepared keeps what every prepared value does.
+    ensures valid { IfOk result (λ value. IsValid H.digest_of value.root value.cells) }
 {
     let known = match pair_old(alloc, update, root, faces) {
         Ok(known) => known,

@@ -3,7 +3,7 @@ ghost use Rattle.cd_cell.specs.GoodFace.{IsGoodFace};
 ghost use Rattle.cd_cell.specs.Tree.{Tree};
 ghost use Rattle.cd_cell.specs.Bags.{bag_tree, bag_trees};
 ghost use Rattle.cd_cell.specs.Export.{distinct_cells, AreClashFree};
-ghost use Rattle.cd_cell.specs.Listings.{new_cell_of};
+ghost use Rattle.cd_cell.specs.Listings.{new_cell_of, IsValid};
 ghost use Rattle.cd_prepare.specs.States.{state_fault, Answers, IsWhole};
 
 use crate::PrepareFault;
@@ -21,7 +21,8 @@ pub fn all_cells<H: Hash32>(
     root: u32,
 ) -> Result<Vec<NewCell>, AllocError>
     requires there { root < length bag.now.cells }
-    ensures cells { IfOk result (λ cells. cells.items ≡ map (new_cell_of H.digest_of) (distinct_cells H.digest_of (bag_tree bag.now root))) }
+    ensures cells { IfOk result (λ cells.
+        cells.items ≡ map (new_cell_of H.digest_of) (distinct_cells H.digest_of (bag_tree bag.now root))) }
     ensures few { IfOk result (λ cells. length cells.items ≤ length bag.now.cells) }
     ensures good { IfOk result (λ cells. All (λ c. IsGoodFace c.face) cells.items) }
 {
@@ -30,7 +31,8 @@ pub fn all_cells<H: Hash32>(
 
 /// The same of an entry whose cell is hashed already.
 fn cells_below<H: Hash32>(alloc: Global, root: &Start<'_, H>) -> Result<Vec<NewCell>, AllocError>
-    ensures cells { IfOk result (λ cells. cells.items ≡ map (new_cell_of H.digest_of) (distinct_cells H.digest_of (bag_tree root.now.bag.now root.now.number))) }
+    ensures cells { IfOk result (λ cells.
+        cells.items ≡ map (new_cell_of H.digest_of) (distinct_cells H.digest_of (bag_tree root.now.bag.now root.now.number))) }
     ensures few { IfOk result (λ cells. length cells.items ≤ length root.now.bag.now.cells) }
     ensures good { IfOk result (λ cells. All (λ c. IsGoodFace c.face) cells.items) }
 {
@@ -45,7 +47,9 @@ pub fn prepare_zero<H: Hash32>(alloc: Global, bag: &Bag<H>) -> Result<Prepared<H
     ensures clear { IfOk result (λ _. AreClashFree H.digest_of (bag_trees bag.now)) }
     ensures old { IfOk result (λ value. value.old ≡ None) }
     ensures few { IfOk result (λ value. length value.cells ≤ length bag.now.cells) }
-    ensures whole { IfOk result (λ value. (state : Tree) → bag_trees bag.now ≡ state ∷ [] → IsWhole H.digest_of state value.root value.cells) }
+    ensures valid { IfOk result (λ value. IsValid H.digest_of value.root value.cells) }
+    ensures whole { IfOk result (λ value. (state : Tree) → bag_trees bag.now ≡ state ∷ []
+        → IsWhole H.digest_of state value.root value.cells) }
 {
     let [root] = bag.roots() else {
         let roots = u32::try_from(bag.roots().len()).unwrap_or(u32::MAX);

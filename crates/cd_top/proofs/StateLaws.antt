@@ -32,7 +32,7 @@ use Rattle.cd_cell.specs.ClashSearch.{NumberedHash, numbered_from}
 use Rattle.cd_boc_read.specs.Grammar.{Spells}
 use Rattle.cd_prepare.specs.declared.prepare_fault.PrepareFault.{PrepareFault}
 use Rattle.cd_prepare.specs.declared.prepare_fault.PrepareFault.TheVariants as prepare
-use Rattle.cd_prepare.specs.States.{count_of, state_fault, IsWhole}
+use Rattle.cd_prepare.specs.States.{root_count, state_fault, IsWhole}
 use Rattle.cd_world.specs.World as world
 use Rattle.cd_world.specs.World.{Block, World, has_hash, held_cells, places_of}
 use Rattle.cd_world.specs.Image.{record_entry}
@@ -186,5 +186,5 @@ module _ (H : List ℕ → Hash256) where
       by (t ∷ []) s e = level-fault bytes t (nat_eq (mask_of H t) 0) fault s refl e
       by (t ∷ u ∷ ts) s e =
           let few = few-trees bytes (t ∷ u ∷ ts) s in
-          subst (λ f. IsRefusal H bytes (status_of f)) (same_Some (prepare.Roots (count_of (t ∷ u ∷ ts))) fault e)
+          subst (λ f. IsRefusal H bytes (status_of f)) (same_Some (prepare.Roots (root_count (t ∷ u ∷ ts))) fault e)
           (t ∷ u ∷ ts, s, omega (arith, few), λ one. omega (arith, few, one))

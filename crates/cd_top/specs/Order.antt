@@ -1,4 +1,4 @@
--- Listed cells in the order of their hashes, and the references to each.
+-- Trusted: listed cells in the order of their hashes, and the references to each.
 use Rattle.std.specs.Prelude.{◌≡◌, ℕ, ◌+◌, ◌<◌, Bool, List, length, slice_index, if◌then◌else◌, AllPairs}
 use Rattle.std.specs.List.{count_by, sum_by}
 use Rattle.std.specs.List.Sorted.{IsPermutation}
@@ -42,4 +42,5 @@ pub record AreCounts (root : ChildInfo) (cells : List NewCell) (order : List Num
 
 -- the record of a cell of the order, under its hash
 abbrev pub record_put : ChildInfo → List NewCell → NumberedHash → List ℕ × List ℕ
-record_put root cells placed = (let hash = placed.0 in hash.0, record_text (references root cells placed.0) (listed_at cells placed.1).face)
+record_put root cells placed =
+    (let hash = placed.0 in hash.0, record_text (references root cells placed.0) (listed_at cells placed.1).face)

@@ -1,5 +1,5 @@
--- The exit status and the line on standard error of each end.
-use Rattle.std.specs.Prelude.{ℕ, List, Option, Some, None, codes}
+-- Trusted: the exit status of each end, and the line on standard error, with its end.
+use Rattle.std.specs.Prelude.{ℕ, List, [], codes}
 use Rattle.cd_top.specs.declared.status.Status.{Status}
 use Rattle.cd_top.specs.declared.status.Status.TheVariants as status
 use Rattle.cd_top.specs.declared.status.TopRefusal.TheVariants as refusal
@@ -14,13 +14,13 @@ code_of status.KeeperFault = 6
 code_of (status.Refused refusal) = 8
 code_of status.Memory = 9
 
-abbrev pub line_of : Status → Option (List ℕ)
-line_of status.Ok = None
-line_of (status.Usage fault) = Some (codes "celldb: usage")
-line_of (status.BadInput fault) = Some (codes "celldb: bad input")
-line_of status.ReadFault = Some (codes "celldb: read fault")
-line_of status.WriteFault = Some (codes "celldb: write fault")
-line_of status.KeeperFault = Some (codes "celldb: keeper fault")
-line_of (status.Refused (refusal.Roots roots)) = Some (codes "celldb: refused Roots")
-line_of (status.Refused (refusal.Level mask)) = Some (codes "celldb: refused Level")
-line_of status.Memory = Some (codes "celldb: no memory")
+abbrev pub line_of : Status → List ℕ
+line_of status.Ok = []
+line_of (status.Usage fault) = codes "celldb: usage\n"
+line_of (status.BadInput fault) = codes "celldb: bad input\n"
+line_of status.ReadFault = codes "celldb: read fault\n"
+line_of status.WriteFault = codes "celldb: write fault\n"
+line_of status.KeeperFault = codes "celldb: keeper fault\n"
+line_of (status.Refused (refusal.Roots roots)) = codes "celldb: refused Roots\n"
+line_of (status.Refused (refusal.Level mask)) = codes "celldb: refused Level\n"
+line_of status.Memory = codes "celldb: no memory\n"

@@ -1,14 +1,19 @@
--- What storing the state of a bag as a zero state does: the block's name, the world with that one block, and what is printed.
-use Rattle.std.specs.Prelude.{ℕ, List, [], ◌∷◌, ◌++◌, negsuc, replicate, false, codes}
+-- Trusted: what storing a state as a zero state does: the block's name, the world with that one block, and the text.
+use Rattle.std.specs.Prelude.{◌≡◌, ℕ, List, [], ◌∷◌, ◌++◌, negsuc, replicate, false, codes}
 use Rattle.std.specs.Fmt.{decimal}
 use Rattle.std.specs.FinMap as finite
 use Rattle.cd_base.specs.declared.hash.Hash256.{Hash256}
 use Rattle.cd_block.specs.declared.block.BlockId.{BlockId}
 use Rattle.cd_block.specs.declared.description.Descr.{Descr}
 use Rattle.cd_block.specs.Spelling.{id_text}
+use Rattle.cd_cell.specs.Export.{IsClashFree}
+use Rattle.cd_cell.specs.PreparedView.{PreparedView}
 use Rattle.cd_cell.specs.Tree.{Tree, rep_of}
+use Rattle.cd_keeper.specs.Contents.{Change}
+use Rattle.cd_prepare.specs.States.{IsWhole}
 use Rattle.cd_prepare.specs.declared.prepare_fault.PrepareFault.{PrepareFault}
 use Rattle.cd_prepare.specs.declared.prepare_fault.PrepareFault.TheVariants as prepare
+use Rattle.cd_world.specs.Image.{change_of}
 use Rattle.cd_world.specs.World.{World, held_cells}
 use Rattle.cd_top.specs.declared.status.Status.{Status}
 use Rattle.cd_top.specs.declared.status.Status.TheVariants as status
@@ -29,25 +34,39 @@ zero_descr id depth = record { id = id; parents = []; root = id.root; depth = de
 
 -- the world that has this one block
 abbrev pub world_of : BlockId → Tree → World
-world_of id state = record { blocks = (record { id = id; parents = []; state = state; tops = []; leaving = false }) ∷ []; pins = []; next_pin = 0 }
+world_of id state = record {
+  blocks = (record { id = id; parents = []; state = state; tops = []; leaving = false }) ∷ [];
+  pins = [];
+  next_pin = 0;
+}
 
 -- the block's name, and the number of its cells, a line each
-unfoldable pub printed_of : BlockId → ℕ → List ℕ
-printed_of id count = codes "id " ++ id_text id ++ codes "\ncells " ++ decimal count ++ codes "\n"
+unfoldable pub block_text : BlockId → ℕ → List ℕ
+block_text id count = codes "id " ++ id_text id ++ codes "\ncells " ++ decimal count ++ codes "\n"
 
 module _ (H : List ℕ → Hash256) where
   abbrev pub zero_world : Tree → World
   zero_world state = world_of (zero_id (rep_of H state)) state
 
   abbrev pub zero_text : Tree → List ℕ
-  zero_text state = printed_of (zero_id (rep_of H state)) (finite.len (held_cells H (zero_world state)))
+  zero_text state = block_text (zero_id (rep_of H state)) (finite.len (held_cells H (zero_world state)))
+
+  -- a value lists all cells of this state
+  pub record IsListOf (state : Tree) (value : PreparedView) : Type 0 where
+    pub clear : IsClashFree H state
+    pub whole : IsWhole H state value.root value.cells
+
+  -- what storing this state takes: the change that makes its world, and what is printed
+  pub record IsPlanOf (state : Tree) (batch : Change) (text : List ℕ) : Type 0 where
+    pub batch_is : batch ≡ change_of H (zero_world state)
+    pub text_is : text ≡ zero_text state
 
 -- the faults of preparing that a state can have
-abbrev pub IsOfState : PrepareFault → Type 0
-IsOfState (prepare.Roots roots) = Unit {0}
-IsOfState (prepare.Level mask) = Unit {0}
-IsOfState prepare.Memory = Unit {0}
-IsOfState _ = ⊥
+abbrev pub IsStateFault : PrepareFault → Type 0
+IsStateFault (prepare.Roots roots) = Unit {0}
+IsStateFault (prepare.Level mask) = Unit {0}
+IsStateFault prepare.Memory = Unit {0}
+IsStateFault _ = ⊥
 
 -- and the status of each
 abbrev pub status_of : PrepareFault → Status

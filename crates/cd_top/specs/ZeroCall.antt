@@ -1,57 +1,29 @@
--- How the command `zero` ends: what each status says of the input, the keeper and the output.
-use Rattle.std.specs.Prelude.{◌≡◌, ◌≢◌, ℕ, ◌<◌, ◌≤◌, List, [], ◌∷◌, length, Option, Some, IfSome, codes}
+-- Trusted: how a call of the program ends: what each status says of the words, the input, the output and the keeper.
+use Rattle.std.specs.Prelude.{◌≡◌, ◌≢◌, ℕ, ◌<◌, ◌≤◌, List, [], ◌∷◌, length, Some, IfSome, codes, string_bytes}
 use Rattle.std.specs.Option.{option_map}
 use Rattle.cd_base.specs.declared.hash.Hash256.{Hash256}
+use Rattle.cd_base.specs.declared.source.Source.{Ghosts as SourceGhosts}
+use Rattle.cd_base.specs.declared.sink.Sink.{Ghosts as SinkGhosts}
 use Rattle.cd_base.specs.Counts.{Rose, one_more}
 use Rattle.cd_base.specs.Told.{IsAtEnd, Got, GotPart}
 use Rattle.cd_cell.specs.Tree.{Tree, mask_of}
-use Rattle.cd_keeper.specs.Contents.{Contents, Change}
+use Rattle.cd_keeper.specs.declared.keeper.Keeper.{Ghosts as KeeperGhosts}
+use Rattle.cd_keeper.specs.Contents.{Change}
 use Rattle.cd_keeper.specs.Keeping.{longer, IsApplied, KeepsHeld}
 use Rattle.cd_boc_read.specs.Grammar.{Spells}
 use Rattle.cd_boc_read.specs.BagFaults.{bag_fault}
-use Rattle.cd_world.specs.Image.{image_of}
+use Rattle.cd_world.specs.Image.{change_of, image_of}
 use Rattle.cd_top.specs.declared.status.Status.{Status}
 use Rattle.cd_top.specs.declared.status.Status.TheVariants as status
+use Rattle.cd_top.specs.declared.status.WordFault.TheVariants as word
 use Rattle.cd_top.specs.declared.status.InputFault.TheVariants as input
 use Rattle.cd_top.specs.declared.status.TopRefusal.TheVariants as refusal
+use Rattle.cd_top.specs.declared.limits.TheConstants.{INPUT_LIMIT}
 use Rattle.cd_top.specs.Zero.{zero_world, zero_text}
 
--- What a call sees of its objects, before and after: the bytes that the source has left and its count of faults, what
--- the keeper tells and its counts, and the bytes that the sink has taken and its count of faults.
-pub record Seen : Type 0 where
-  pub left : Option (List ℕ)
-  pub left_after : Option (List ℕ)
-  pub read_faults : ℕ
-  pub read_faults_after : ℕ
-  pub held : Option Contents
-  pub held_after : Option Contents
-  pub trail : Option (List Contents)
-  pub trail_after : Option (List Contents)
-  pub batches : ℕ
-  pub batches_after : ℕ
-  pub keep_faults : ℕ
-  pub keep_faults_after : ℕ
-  pub taken : Option (List ℕ)
-  pub taken_after : Option (List ℕ)
-  pub write_faults : ℕ
-  pub write_faults_after : ℕ
-
--- the most bytes that an input has
-abbrev pub input_limit : ℕ
-input_limit = 134217728
-
--- keeper and sink are as before
-pub record IsUntouched (s : Seen) : Type 0 where
-  pub held : s.held_after ≡ s.held
-  pub trail : s.trail_after ≡ s.trail
-  pub batches : s.batches_after ≡ s.batches
-  pub taken : s.taken_after ≡ s.taken
-
--- the input was these bytes, and was read to its end
-pub record IsInput (s : Seen) (bytes : List ℕ) : Type 0 where
-  pub all : IfSome s.left (λ left. left ≡ bytes)
-  pub end : IsAtEnd s.left_after
-  pub within : length bytes ≤ input_limit
+-- exactly the one word `zero`
+abbrev pub IsZeroLine : List (List ℕ) → Type 0
+IsZeroLine words = words ≡ codes "zero" ∷ []
 
 module _ (H : List ℕ → Hash256) where
   -- the bytes are a bag of this one tree, and its root is of level 0
@@ -59,55 +31,136 @@ module _ (H : List ℕ → Hash256) where
     pub bag : Spells H bytes (state ∷ [])
     pub level : mask_of H state ≡ 0
 
-  -- the input was a bag of this state
-  pub record IsState (s : Seen) (bytes : List ℕ) (state : Tree) : Type 0 where
-    pub input : IsInput s bytes
-    pub bag : IsStateBag bytes state
-
   -- why the bytes are no bag of a state, by the status that says so
   abbrev pub IsRefusal : List ℕ → Status → Type 0
   IsRefusal bytes (status.BadInput (input.Bag fault)) = bag_fault H bytes ≡ Some fault
-  IsRefusal bytes (status.Refused (refusal.Roots roots)) = (trees : List Tree) × Spells H bytes trees × (length trees ≡ roots) × (roots ≢ 1)
-  IsRefusal bytes (status.Refused (refusal.Level mask)) = (tree : Tree) × Spells H bytes (tree ∷ []) × (mask_of H tree ≡ mask) × (mask ≢ 0)
+  IsRefusal bytes (status.Refused (refusal.Roots roots)) =
+      (trees : List Tree) × Spells H bytes trees × (length trees ≡ roots) × (roots ≢ 1)
+  IsRefusal bytes (status.Refused (refusal.Level mask)) =
+      (tree : Tree) × Spells H bytes (tree ∷ []) × (mask_of H tree ≡ mask) × (mask ≢ 0)
   IsRefusal bytes status.Memory = Unit {0}
   IsRefusal bytes _ = ⊥
 
-  -- and the keeper holds the image of the world with that one block, made in one batch
-  pub record IsStored (s : Seen) (bytes : List ℕ) (state : Tree) : Type 0 where
-    pub read : IsState s bytes state
-    pub held : s.held_after ≡ option_map (λ _. image_of H (zero_world H state)) s.held
-    pub trail : s.trail_after ≡ longer s.trail s.held_after
-    pub batches : s.batches_after ≡ one_more s.batches
+-- no fault was counted
+abbrev pub NoFault : ℕ → ℕ → Type 0
+NoFault before now = now ≡ before
 
-  abbrev pub Ends : Seen → Status → Type 0
+-- A source S, a sink O and a keeper K are seen by what their traits tell of them, before the call and after it.
+module _ {S : Type 0} (s : SourceGhosts S) where
+  -- the input was these bytes, and was read to its end without a fault
+  pub record IsInput (bytes : List ℕ) (old new : S) : Type 0 where
+    pub all : IfSome (s.left old) (λ left. left ≡ bytes)
+    pub end : IsAtEnd (s.left new)
+    pub within : length bytes ≤ INPUT_LIMIT
+    pub steady : NoFault (s.faults old) (s.faults new)
+
+  -- it was longer than an input may be, and was read as far without a fault
+  pub record IsLong (old new : S) : Type 0 where
+    pub more : IfSome (s.left old) (λ left. INPUT_LIMIT < length left)
+    pub steady : NoFault (s.faults old) (s.faults new)
+
+module _ (H : List ℕ → Hash256) {S : Type 0} (s : SourceGhosts S) where
+  -- the input was a bag of this state
+  pub record IsOfState (state : Tree) (old new : S) : Type 0 where
+    pub bytes : List ℕ
+    pub input : IsInput s bytes old new
+    pub bag : IsStateBag H bytes state
+
+  -- the input was no bag of a state, as this status says
+  pub record IsRefused (end : Status) (old new : S) : Type 0 where
+    pub bytes : List ℕ
+    pub input : IsInput s bytes old new
+    pub refusal : IsRefusal H bytes end
+
+module _ (H : List ℕ → Hash256) {K : Type 0} (k : KeeperGhosts K) where
+  -- the keeper holds the image of the world with the one block of this state, made in one batch without a fault
+  pub record IsStored (state : Tree) (old new : K) : Type 0 where
+    pub held : k.held new ≡ option_map (λ _. image_of H (zero_world H state)) (k.held old)
+    pub trail : k.trail new ≡ longer (k.trail old) (k.held new)
+    pub batches : k.batches new ≡ one_more (k.batches old)
+    pub steady : NoFault (k.faults old) (k.faults new)
+
+module _ {O : Type 0} (o : SinkGhosts O) where
+  -- the sink got these bytes without a fault
+  pub record HasGot (text : List ℕ) (old new : O) : Type 0 where
+    pub got : Got (o.taken old) (o.taken new) text
+    pub steady : NoFault (o.faults old) (o.faults new)
+
+  -- the sink failed, and got a part of these bytes
+  pub record HasFailed (text : List ℕ) (old new : O) : Type 0 where
+    pub failed : Rose (o.faults old) (o.faults new)
+    pub got : GotPart (o.taken old) (o.taken new) text
+
+module _ {K : Type 0} (k : KeeperGhosts K) where
+  -- contents, trail and count of batches are as before
+  abbrev pub Keeps : K → K → Type 0
+  Keeps = KeepsHeld k.held k.trail k.batches
+
+  -- the keeper failed, and holds what it held
+  pub record HasRefused (old new : K) : Type 0 where
+    pub failed : Rose (k.faults old) (k.faults new)
+    pub kept : Keeps old new
+
+  -- the keeper holds what it held, and no fault was counted
+  pub record IsKept (old new : K) : Type 0 where
+    pub kept : Keeps old new
+    pub steady : NoFault (k.faults old) (k.faults new)
+
+-- nothing was asked of the sink and the keeper: they are the very same
+pub record AreSame {O K : Type 0} (out out_after : O) (kept kept_after : K) : Type 0 where
+  pub sink : out_after ≡ out
+  pub keeper : kept_after ≡ kept
+
+module _ (H : List ℕ → Hash256) {S O K : Type 0} (s : SourceGhosts S) (o : SinkGhosts O) (k : KeeperGhosts K) where
+  -- how the command `zero` ends
+  abbrev pub ZeroEnds : S → S → O → O → K → K → Status → Type 0
   -- stored and printed
-  Ends s status.Ok = (bytes : List ℕ) × (state : Tree) × IsStored s bytes state × Got s.taken s.taken_after (zero_text H state)
-  Ends s (status.Usage fault) = ⊥
-  -- too long, and nothing done
-  Ends s (status.BadInput (input.Long limit)) = (limit ≡ input_limit) × IfSome s.left (λ left. input_limit < length left) × IsUntouched s
-  -- no bag, by its first fault, and nothing done
-  Ends s (status.BadInput (input.Bag fault)) = (bytes : List ℕ) × IsInput s bytes × IsRefusal bytes (status.BadInput (input.Bag fault)) × IsUntouched s
-  Ends s status.ReadFault = Rose s.read_faults s.read_faults_after × IsUntouched s
-  -- stored, and a part of it printed
-  Ends s status.WriteFault = Rose s.write_faults s.write_faults_after × ((bytes : List ℕ) × (state : Tree) × IsStored s bytes state × GotPart s.taken s.taken_after (zero_text H state))
-  Ends s status.KeeperFault = Rose s.keep_faults s.keep_faults_after × ((bytes : List ℕ) × (state : Tree) × IsState s bytes state) × IsUntouched s
-  -- a bag that is no state, and nothing done
-  Ends s (status.Refused refusal) = (bytes : List ℕ) × IsInput s bytes × IsRefusal bytes (status.Refused refusal) × IsUntouched s
-  Ends s status.Memory = IsUntouched s
+  ZeroEnds i j out out_after keeper keeper_after status.Ok =
+      (state : Tree) × IsOfState H s state i j × IsStored H k state keeper keeper_after
+      × HasGot o (zero_text H state) out out_after
+  -- never: these words are those of a command
+  ZeroEnds i j out out_after keeper keeper_after (status.Usage fault) = ⊥
+  -- too long
+  ZeroEnds i j out out_after keeper keeper_after (status.BadInput (input.Long limit)) =
+      (limit ≡ INPUT_LIMIT) × IsLong s i j × AreSame out out_after keeper keeper_after
+  -- no bag, by its first fault
+  ZeroEnds i j out out_after keeper keeper_after (status.BadInput (input.Bag fault)) =
+      IsRefused H s (status.BadInput (input.Bag fault)) i j × AreSame out out_after keeper keeper_after
+  -- the source failed
+  ZeroEnds i j out out_after keeper keeper_after status.ReadFault =
+      Rose (s.faults i) (s.faults j) × AreSame out out_after keeper keeper_after
+  -- the sink failed: stored, and a part of it printed
+  ZeroEnds i j out out_after keeper keeper_after status.WriteFault =
+      (state : Tree) × IsOfState H s state i j × IsStored H k state keeper keeper_after
+      × HasFailed o (zero_text H state) out out_after
+  -- the keeper failed: nothing stored, nothing printed
+  ZeroEnds i j out out_after keeper keeper_after status.KeeperFault =
+      (state : Tree) × IsOfState H s state i j × HasRefused k keeper keeper_after × (out_after ≡ out)
+  -- a bag that is no state
+  ZeroEnds i j out out_after keeper keeper_after (status.Refused refusal) =
+      IsRefused H s (status.Refused refusal) i j × AreSame out out_after keeper keeper_after
+  -- want of memory: nothing stored, nothing printed
+  ZeroEnds i j out out_after keeper keeper_after status.Memory =
+      NoFault (s.faults i) (s.faults j) × IsKept k keeper keeper_after × (out_after ≡ out)
 
--- exactly the one word `zero`
-abbrev pub IsZeroLine : List (List ℕ) → Type 0
-IsZeroLine words = words ≡ codes "zero" ∷ []
+  -- how a call ends, by its words: a row for each command, and one for words that are none
+  pub record Ends (words : List (List ℕ)) (i j : S) (out out_after : O) (keeper keeper_after : K) (end : Status) : Type 0 where
+    pub zero : IsZeroLine words → ZeroEnds i j out out_after keeper keeper_after end
+    pub usage : ¬ IsZeroLine words
+        → (end ≡ status.Usage word.Usage) × (j ≡ i) × AreSame out out_after keeper keeper_after
 
--- how storing a change in empty tables and writing a text ends
-module _ {K : Type 0} (change : Change) (text : List ℕ) (held : K → Option Contents) (trail : K → Option (List Contents)) (batches faults : K → ℕ) where
-  abbrev pub IsStoring : K → K → Option (List ℕ) → Option (List ℕ) → ℕ → ℕ → Status → Type 0
-  IsStoring old new taken taken_after write_faults write_faults_after status.Ok = IsApplied held trail batches change old new × Got taken taken_after text
-  IsStoring old new taken taken_after write_faults write_faults_after status.WriteFault =
-      Rose write_faults write_faults_after × IsApplied held trail batches change old new × GotPart taken taken_after text
-  IsStoring old new taken taken_after write_faults write_faults_after status.KeeperFault = Rose (faults old) (faults new) × KeepsHeld held trail batches old new × (taken_after ≡ taken)
-  IsStoring old new taken taken_after write_faults write_faults_after status.Memory = KeepsHeld held trail batches old new × (taken_after ≡ taken)
-  IsStoring old new taken taken_after write_faults write_faults_after (status.Usage fault) = ⊥
-  IsStoring old new taken taken_after write_faults write_faults_after (status.BadInput fault) = ⊥
-  IsStoring old new taken taken_after write_faults write_faults_after status.ReadFault = ⊥
-  IsStoring old new taken taken_after write_faults write_faults_after (status.Refused refusal) = ⊥
+-- how making a change and writing a text ends
+module _ {O K : Type 0} (o : SinkGhosts O) (k : KeeperGhosts K) (change : Change) (text : List ℕ) where
+  -- the change was made without a fault
+  pub record IsMade (old new : K) : Type 0 where
+    pub applied : IsApplied k.held k.trail k.batches change old new
+    pub steady : NoFault (k.faults old) (k.faults new)
+
+  abbrev pub IsStoring : O → O → K → K → Status → Type 0
+  IsStoring out out_after keeper keeper_after status.Ok = IsMade keeper keeper_after × HasGot o text out out_after
+  IsStoring out out_after keeper keeper_after status.WriteFault =
+      IsMade keeper keeper_after × HasFailed o text out out_after
+  IsStoring out out_after keeper keeper_after status.KeeperFault =
+      HasRefused k keeper keeper_after × (out_after ≡ out)
+  IsStoring out out_after keeper keeper_after status.Memory = IsKept k keeper keeper_after × (out_after ≡ out)
+  IsStoring out out_after keeper keeper_after _ = ⊥

@@ -2,14 +2,13 @@
 #![tactic(auto)]
 
 mod counts;
+mod limits;
 mod once;
 mod order;
 mod records;
 mod status;
 mod zero;
 
-pub use once::{Ended, INPUT_LIMIT, celldb_once};
+pub use limits::INPUT_LIMIT;
+pub use once::{Ended, celldb_once};
 pub use status::{InputFault, Status, TopRefusal, WordFault};
-
-#[cfg(test)]
-mod tests;

@@ -1,25 +1,19 @@
 ghost use Rattle.std.specs.Prelude.{◌≡◌, ◌↔◌, ◌≤◌, length, IfOk, IfErr, IfSome, IsTrue, map, string_bytes};
 ghost use Rattle.cd_cell.specs.Tree.{Tree};
-ghost use Rattle.cd_cell.specs.Export.{IsClashFree};
-ghost use Rattle.cd_prepare.specs.States.{IsWhole};
 ghost use Rattle.cd_keeper.specs.Contents.{no_contents};
-ghost use Rattle.cd_world.specs.Image.{change_of};
-ghost use Rattle.cd_top.specs.Zero.{zero_world, zero_text};
-ghost use Rattle.cd_top.specs.Zero.{IsOfState, status_of};
-ghost use Rattle.cd_top.specs.ZeroCall.{IsZeroLine, IsStateBag, IsRefusal, IsStoring, Ends};
+ghost use Rattle.cd_top.specs.Zero.{IsListOf, IsPlanOf, IsStateFault, status_of};
+ghost use Rattle.cd_top.specs.ZeroCall.{IsZeroLine, IsStateBag, IsRefusal, IsStoring, Ends, ZeroEnds};
 
+use crate::limits::INPUT_LIMIT;
 use crate::status::{InputFault, Status, TopRefusal, WordFault};
 use crate::zero::{Plan, plan_zero};
 use cd_base::{ReadAllFault, Sink, Source, read_all, write_all};
 use cd_boc_read::{BagFault, read_bag};
-use cd_cell::{Hash32, Prepared};
+use cd_cell::{Hash32, MOST_CELLS, Prepared};
 use cd_keeper::{KeepFault, Keeper};
 use cd_prepare::{PrepareFault, prepare_zero};
 use std::alloc::Global;
 use std::marker::PhantomData;
-
-/// The most bytes that an input may have.
-pub const INPUT_LIMIT: u64 = 134_217_728;
 
 /// How a call ended, with the keeper that it was given.
 pub struct Ended<K, H> {
@@ -56,7 +50,7 @@ fn is_zero_line(words: &[String]) -> bool
 
 /// The status of a call over a bag that is no state's.
 fn refusal_of(fault: &PrepareFault) -> Status
-    requires { IsOfState fault.now }
+    requires { IsStateFault fault.now }
     ensures { result ≡ status_of fault.now }
 {
     match fault {
@@ -70,9 +64,9 @@ fn refusal_of(fault: &PrepareFault) -> Status
 /// The value of the state that these bytes are a bag of, or the status of a call over bytes that are no such bag. The
 /// bytes are given up once they are read, and the bag once it is listed.
 fn prepared_of<H: Hash32>(alloc: Global, bytes: Vec<u8>) -> Result<Prepared<H>, Status>
-    ensures found { IfOk result (λ value. (state : Tree) × IsStateBag H.digest_of bytes.items state × IsClashFree H.digest_of state
-        × IsWhole H.digest_of state value.root value.cells) }
-    ensures few { IfOk result (λ value. length value.cells ≤ 1048576) }
+    ensures found { IfOk result (λ value. (state : Tree)
+        × IsStateBag H.digest_of bytes.items state × IsListOf H.digest_of state value) }
+    ensures few { IfOk result (λ value. length value.cells ≤ MOST_CELLS) }
     ensures refused { IfErr result (IsRefusal H.digest_of bytes.items) }
 {
     let read = read_bag::<H>(alloc, &bytes);
@@ -90,8 +84,8 @@ fn prepared_of<H: Hash32>(alloc: Global, bytes: Vec<u8>) -> Result<Prepared<H>, 
 
 /// What is to be stored and printed for these bytes, or the status of a call over bytes that are no bag of a state.
 fn plan_of<H: Hash32>(alloc: Global, bytes: Vec<u8>) -> Result<Plan, Status>
-    ensures found { IfOk result (λ plan. (state : Tree) × IsStateBag H.digest_of bytes.items state
-        × (plan.batch ≡ change_of H.digest_of (zero_world H.digest_of state)) × (string_bytes plan.text ≡ zero_text H.digest_of state)) }
+    ensures found { IfOk result (λ plan. (state : Tree)
+        × IsStateBag H.digest_of bytes.items state × IsPlanOf H.digest_of state plan.batch (string_bytes plan.text)) }
     ensures refused { IfErr result (IsRefusal H.digest_of bytes.items) }
 {
     let value = match prepared_of::<H>(alloc, bytes) {
@@ -106,7 +100,8 @@ fn plan_of<H: Hash32>(alloc: Global, bytes: Vec<u8>) -> Result<Plan, Status>
 
 /// Stores the batch and writes the text. The keeper is given back.
 fn store<O: Sink, K: Keeper, H: Hash32>(plan: &Plan, out: &mut O, mut keeper: K) -> Ended<K, H>
-    ensures stored { IsStoring plan.now.batch (string_bytes plan.now.text) K.held K.trail K.batches K.faults keeper result.keeper (O.taken out.old) (O.taken out.new) (O.faults out.old) (O.faults out.new) result.status }
+    ensures { IsStoring O.Sink K.Keeper plan.now.batch (string_bytes plan.now.text)
+        out.old out.new keeper result.keeper result.status }
 {
     match keeper.apply(&plan.batch) {
         Err(KeepFault::Failed) => Ended::of(Status::KeeperFault, keeper),
@@ -131,30 +126,27 @@ pub fn celldb_once<S: Source, O: Sink, K: Keeper, H: Hash32>(
     keeper: K,
 ) -> Ended<K, H>
     requires empty { IfSome (K.held keeper) (λ contents. contents ≡ no_contents) }
-    ensures usage { (result.status ≡ Status.Usage WordFault.Usage) ↔ ¬ IsZeroLine (map string_bytes words.now) }
-    ensures refused { ¬ IsZeroLine (map string_bytes words.now) → (input.new ≡ input.old) × (out.new ≡ out.old) × (result.keeper ≡ keeper) }
-    ensures zero { IsZeroLine (map string_bytes words.now) → Ends H.digest_of (record {
-      left = S.left input.old;
-      left_after = S.left input.new;
-      read_faults = S.faults input.old;
-      read_faults_after = S.faults input.new;
-      held = K.held keeper;
-      held_after = K.held result.keeper;
-      trail = K.trail keeper;
-      trail_after = K.trail result.keeper;
-      batches = K.batches keeper;
-      batches_after = K.batches result.keeper;
-      keep_faults = K.faults keeper;
-      keep_faults_after = K.faults result.keeper;
-      taken = O.taken out.old;
-      taken_after = O.taken out.new;
-      write_faults = O.faults out.old;
-      write_faults_after = O.faults out.new;
-    }) result.status }
+    ensures { Ends H.digest_of S.Source O.Sink K.Keeper (map string_bytes words.now)
+        input.old input.new out.old out.new keeper result.keeper result.status }
 {
-    if !is_zero_line(words) {
-        return Ended::of(Status::Usage(WordFault::Usage), keeper);
+    if is_zero_line(words) {
+        zero(alloc, input, out, keeper)
+    } else {
+        Ended::of(Status::Usage(WordFault::Usage), keeper)
     }
+}
+
+/// The command `zero`.
+fn zero<S: Source, O: Sink, K: Keeper, H: Hash32>(
+    alloc: Global,
+    input: &mut S,
+    out: &mut O,
+    keeper: K,
+) -> Ended<K, H>
+    requires empty { IfSome (K.held keeper) (λ contents. contents ≡ no_contents) }
+    ensures { ZeroEnds H.digest_of S.Source O.Sink K.Keeper input.old input.new out.old out.new
+        keeper result.keeper result.status }
+{
     let bytes = match read_all(alloc, input, INPUT_LIMIT) {
         Ok(bytes) => bytes,
         Err(ReadAllFault::Failed) => return Ended::of(Status::ReadFault, keeper),

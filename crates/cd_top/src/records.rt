@@ -16,7 +16,8 @@ pub fn records_of<H: Hash32>(
 ) -> Result<Vec<(Hash256, Vec<u8>)>, Memory>
     requires order { IsOrder value.now.cells order.now }
     requires counts { AreCounts value.now.root value.now.cells order.now counts.now }
-    ensures { IfOk result (λ puts. entries_of hash_bytes puts.items ≡ map (record_put value.now.root value.now.cells) order.now) }
+    ensures { IfOk result (λ puts. entries_of hash_bytes puts.items
+        ≡ map (record_put value.now.root value.now.cells) order.now) }
 {
     let cells = value.cells();
     let mut puts = Vec::with_capacity(alloc, order.len())?;

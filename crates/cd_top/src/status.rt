@@ -1,6 +1,5 @@
-ghost use Rattle.std.specs.Prelude.{◌≡◌, MatchOption, codes};
+ghost use Rattle.std.specs.Prelude.{◌≡◌, codes};
 ghost use Rattle.cd_top.specs.StatusText.{code_of, line_of};
-ghost use Rattle.std.specs.Option.{option_map};
 
 use cd_boc_read::BagFault;
 use cd_cell::Mask;
@@ -77,20 +76,20 @@ impl Status {
         }
     }
 
-    /// What the program prints to standard error, without the end of the line; nothing where all went well.
-    pub fn line(&self) -> Option<&'static str>
-        ensures { option_map (λ line. line.now) result ≡ line_of self.now }
+    /// What the program prints to standard error: a line with its end, and nothing where all went well.
+    pub fn line(&self) -> &'static str
+        ensures { result.now ≡ line_of self.now }
     {
         match self {
-            Status::Ok => None,
-            Status::Usage(_) => Some("celldb: usage"),
-            Status::BadInput(_) => Some("celldb: bad input"),
-            Status::ReadFault => Some("celldb: read fault"),
-            Status::WriteFault => Some("celldb: write fault"),
-            Status::KeeperFault => Some("celldb: keeper fault"),
-            Status::Refused(TopRefusal::Roots { .. }) => Some("celldb: refused Roots"),
-            Status::Refused(TopRefusal::Level { .. }) => Some("celldb: refused Level"),
-            Status::Memory => Some("celldb: no memory"),
+            Status::Ok => "",
+            Status::Usage(_) => "celldb: usage\n",
+            Status::BadInput(_) => "celldb: bad input\n",
+            Status::ReadFault => "celldb: read fault\n",
+            Status::WriteFault => "celldb: write fault\n",
+            Status::KeeperFault => "celldb: keeper fault\n",
+            Status::Refused(TopRefusal::Roots { .. }) => "celldb: refused Roots\n",
+            Status::Refused(TopRefusal::Level { .. }) => "celldb: refused Level\n",
+            Status::Memory => "celldb: no memory\n",
         }
     }
 }

@@ -2,23 +2,20 @@ ghost use Rattle.std.specs.Prelude.{◌≡◌, ◌∷◌, [], false, ◌≤◌, 
 ghost use Rattle.cd_block.specs.Block.{key_of};
 ghost use Rattle.cd_block.specs.Description.{descr_text};
 ghost use Rattle.cd_cell.specs.Tree.{Tree};
-ghost use Rattle.cd_cell.specs.Export.{IsClashFree};
 ghost use Rattle.std.specs.Prelude.{string_bytes};
 ghost use Rattle.std.specs.List.{IsDistinct};
 ghost use Rattle.std.specs.Map.{keys_of};
 ghost use Rattle.cd_keeper.specs.Shown as cells_put;
 ghost use Rattle.cd_keeper.specs.Shown.{hash_bytes};
 ghost use Rattle.cd_keeper.specs.NoKeyTwice.{same_key};
-ghost use Rattle.cd_prepare.specs.States.{IsWhole};
-ghost use Rattle.cd_world.specs.Image.{change_of};
-ghost use Rattle.cd_top.specs.Zero.{zero_id, zero_descr, zero_world, zero_text, printed_of};
+ghost use Rattle.cd_top.specs.Zero.{zero_id, zero_descr, block_text, IsListOf, IsPlanOf};
 
 use crate::counts::count_references;
 use crate::order::by_hash;
 use crate::records::records_of;
 use cd_base::{Hash256, Memory};
 use cd_block::{BlockId, BlockIds, Descr, ShardId, encode_descr, print_id};
-use cd_cell::{Hash32, Prepared};
+use cd_cell::{GREATEST_DEPTH, Hash32, MOST_CELLS, Prepared};
 use cd_keeper::Batch;
 use std::alloc::Global;
 
@@ -47,9 +44,9 @@ fn id_of(root: Hash256) -> BlockId
 }
 
 /// The block's name and the number of its cells, a line each.
-#[tactic(auto, unfolding(crate::specs::Zero::printed_of))]
-fn printed(alloc: Global, id: &BlockId, cells: usize) -> Result<String, Memory>
-    ensures { IfOk result (λ text. string_bytes text ≡ printed_of id.now cells) }
+#[tactic(auto, unfolding(crate::specs::Zero::block_text))]
+fn block_text(alloc: Global, id: &BlockId, cells: usize) -> Result<String, Memory>
+    ensures { IfOk result (λ text. string_bytes text ≡ block_text id.now cells) }
 {
     let name = print_id(alloc, id)?;
     let mut text = String::from_str(alloc, "id ")?;
@@ -68,7 +65,7 @@ fn batch_of(
     depth: u16,
 ) -> Result<Batch, Memory>
     requires keys { IsDistinct same_key (keys_of (cells_put.entries_of hash_bytes puts.items)) }
-    requires depth { depth ≤ 1024 }
+    requires depth { depth ≤ GREATEST_DEPTH }
     ensures { IfOk result (λ batch. batch ≡ record {
       put_cells = cells_put.entries_of hash_bytes puts.items;
       drop_cells = [];
@@ -93,17 +90,15 @@ fn batch_of(
 /// What storing a value as a zero state takes. Where it lists all cells of a state, this is the batch that makes the
 /// image of the world with that one block.
 pub fn plan_zero<H: Hash32>(alloc: Global, value: &Prepared<H>) -> Result<Plan, Memory>
-    requires few { length value.now.cells ≤ 1048576 }
-    ensures batch { IfOk result (λ plan. (state : Tree) → IsClashFree H.digest_of state → IsWhole H.digest_of state value.now.root value.now.cells
-        → plan.batch ≡ change_of H.digest_of (zero_world H.digest_of state)) }
-    ensures text { IfOk result (λ plan. (state : Tree) → IsClashFree H.digest_of state → IsWhole H.digest_of state value.now.root value.now.cells
-        → string_bytes plan.text ≡ zero_text H.digest_of state) }
+    requires few { length value.now.cells ≤ MOST_CELLS }
+    ensures { IfOk result (λ plan. (state : Tree) → IsListOf H.digest_of state value.now
+        → IsPlanOf H.digest_of state plan.batch (string_bytes plan.text)) }
 {
     let order = by_hash(alloc, value)?;
     let counts = count_references(alloc, value, &order)?;
     let puts = records_of(alloc, value, &order, &counts)?;
     let id = id_of(value.root().rep());
-    let text = printed(alloc, &id, order.len())?;
+    let text = block_text(alloc, &id, order.len())?;
     let batch = batch_of(alloc, puts, id, value.root().height())?;
     Ok(Plan { batch, text })
 }

@@ -5,6 +5,7 @@ use Rattle.std.specs.Option.{option_map, option_to_list}
 use Rattle.std.proofs.lemmas.List.{take-append-drop, get_or_append_left, length-append}
 use Rattle.cd_base.specs.declared.hash.Hash256.{Hash256}
 use Rattle.cd_cell.specs.FaceView.{FaceView}
+use Rattle.cd_cell.specs.BagView.{BagView}
 use Rattle.cd_cell.specs.Infos.{no_hash}
 use Rattle.cd_cell.specs.Tree.{face_of, hash_at}
 use Rattle.cd_cell.specs.Equality.{same_hash, same_hash-Decides}
@@ -16,7 +17,7 @@ use Rattle.cd_update.specs.EachOnce.{with_new, each_once}
 use Rattle.cd_update.specs.Places.{Place}
 use Rattle.cd_update.specs.Visits.{visit_at, place_of, visited}
 use Rattle.cd_update.specs.Pairing.{beside, unlike, visible_hash, wanted_at, misfit_at}
-use Rattle.cd_update.specs.Faults.{told}
+use Rattle.cd_update.specs.Answers.{refusal_of_pairing}
 use Rattle.cd_update.proofs.EachOnceLaws.{IsOnce, IsOnce-each_once, added-extends, fold-append, flat_map-append}
 use Rattle.cd_cell.proofs.ListTests.{true_or_false}
 use Rattle.cd_update.proofs.PlaceLaws.{visited-append, each_once-more}
@@ -59,44 +60,44 @@ module _ (H : List ℕ → Hash256) where
       ap (λ b. if b then None else unlike p.depth (hash_at H p.tree p.depth) (look (hash_at H p.tree p.depth)) (face_of H p.tree)) both.0
       ∙ ap (λ h. unlike p.depth h (look h) (face_of H p.tree)) both.1
 
-  module _ (cells : List FaceView) (refs : List (List ℕ)) (visits : List Visit) (i : ℕ) (in' : i < length visits) where
+  module _ (bag : BagView) (visits : List Visit) (i : ℕ) (in' : i < length visits) where
     abbrev upto_here : List Hash256
-    upto_here = each_once same_hash (flat_map (wanted_at H) (visited cells refs (take i visits)))
+    upto_here = each_once same_hash (flat_map (wanted_at H) (visited bag (take i visits)))
 
     abbrev all_wanted : List Hash256
-    all_wanted = each_once same_hash (flat_map (wanted_at H) (visited cells refs visits))
+    all_wanted = each_once same_hash (flat_map (wanted_at H) (visited bag visits))
 
-    pub wanted-hidden : visible_hash H (place_of cells refs (visit_at visits i).node) ≡ None → each_once same_hash (flat_map (wanted_at H) (visited cells refs (take (i + 1) visits))) ≡ upto_here
-    wanted-hidden e = each_once-more cells refs visits i in' same_hash (wanted_at H) ∙ ap (λ o. fold (with_new same_hash) upto_here (option_to_list o)) e
+    pub wanted-hidden : visible_hash H (place_of bag (visit_at visits i).node) ≡ None → each_once same_hash (flat_map (wanted_at H) (visited bag (take (i + 1) visits))) ≡ upto_here
+    wanted-hidden e = each_once-more bag visits i in' same_hash (wanted_at H) ∙ ap (λ o. fold (with_new same_hash) upto_here (option_to_list o)) e
 
-    pub wanted-visible : (hash : Hash256) → visible_hash H (place_of cells refs (visit_at visits i).node) ≡ Some hash → each_once same_hash (flat_map (wanted_at H) (visited cells refs (take (i + 1) visits))) ≡ with_new same_hash upto_here hash
-    wanted-visible hash e = each_once-more cells refs visits i in' same_hash (wanted_at H) ∙ ap (λ o. fold (with_new same_hash) upto_here (option_to_list o)) e
+    pub wanted-visible : (hash : Hash256) → visible_hash H (place_of bag (visit_at visits i).node) ≡ Some hash → each_once same_hash (flat_map (wanted_at H) (visited bag (take (i + 1) visits))) ≡ with_new same_hash upto_here hash
+    wanted-visible hash e = each_once-more bag visits i in' same_hash (wanted_at H) ∙ ap (λ o. fold (with_new same_hash) upto_here (option_to_list o)) e
 
     -- the place that a hash got is its place among all
-    pub look-at : (faces : List (Option FaceView)) (hash : Hash256) (place : ℕ) → visible_hash H (place_of cells refs (visit_at visits i).node) ≡ Some hash → place < length (with_new same_hash upto_here hash) → get_or (with_new same_hash upto_here hash) place no_hash ≡ hash → beside all_wanted faces hash ≡ get_or faces place None
+    pub look-at : (faces : List (Option FaceView)) (hash : Hash256) (place : ℕ) → visible_hash H (place_of bag (visit_at visits i).node) ≡ Some hash → place < length (with_new same_hash upto_here hash) → get_or (with_new same_hash upto_here hash) place no_hash ≡ hash → beside all_wanted faces hash ≡ get_or faces place None
     look-at faces hash place e below at =
         let so_far = with_new same_hash upto_here hash in
-        let rest = flat_map (wanted_at H) (visited cells refs (drop (i + 1) visits)) in
+        let rest = flat_map (wanted_at H) (visited bag (drop (i + 1) visits)) in
         let more = added-extends same_hash same_hash-Decides so_far rest in
         let split : all_wanted ≡ so_far ++ more.0 =
-        ap (λ vs. each_once same_hash (flat_map (wanted_at H) (visited cells refs vs))) (sym (take-append-drop (i + 1) visits))
-        ∙ ap (λ ps. each_once same_hash (flat_map (wanted_at H) ps)) (visited-append cells refs (take (i + 1) visits) (drop (i + 1) visits))
-        ∙ ap (each_once same_hash) (flat_map-append (wanted_at H) (visited cells refs (take (i + 1) visits)) (visited cells refs (drop (i + 1) visits)))
-        ∙ fold-append (with_new same_hash) [] (flat_map (wanted_at H) (visited cells refs (take (i + 1) visits))) rest
+        ap (λ vs. each_once same_hash (flat_map (wanted_at H) (visited bag vs))) (sym (take-append-drop (i + 1) visits))
+        ∙ ap (λ ps. each_once same_hash (flat_map (wanted_at H) ps)) (visited-append bag (take (i + 1) visits) (drop (i + 1) visits))
+        ∙ ap (each_once same_hash) (flat_map-append (wanted_at H) (visited bag (take (i + 1) visits)) (visited bag (drop (i + 1) visits)))
+        ∙ fold-append (with_new same_hash) [] (flat_map (wanted_at H) (visited bag (take (i + 1) visits))) rest
         ∙ ap (λ hs. fold (with_new same_hash) hs rest) (wanted-visible hash e)
         ∙ more.1
         in
-        beside-at all_wanted faces hash place (IsOnce-each_once same_hash same_hash-Decides (flat_map (wanted_at H) (visited cells refs visits)))
+        beside-at all_wanted faces hash place (IsOnce-each_once same_hash same_hash-Decides (flat_map (wanted_at H) (visited bag visits)))
         (omega (arith, ap length split, length-append so_far more.0))
         (ap (λ hs. get_or hs place no_hash) split ∙ get_or_append_left so_far more.0 no_hash place below ∙ at)
 
-memory-told : (fault : PairFault) → told fault ≡ None → fault ≡ Memory
-memory-told (OldHash stated real) e = cc
-memory-told (OldDepth stated real) e = cc
-memory-told (OldHalf hash stored shown) e = cc
-memory-told Memory e = refl
+memory-unless_refused : (fault : PairFault) → refusal_of_pairing fault ≡ None → fault ≡ Memory
+memory-unless_refused (OldHash stated real) e = cc
+memory-unless_refused (OldDepth stated real) e = cc
+memory-unless_refused (OldHalf hash stored shown) e = cc
+memory-unless_refused Memory e = refl
 
--- a fault that tells a misfit tells the first one
-pub fault-told : (fault : PairFault) (here whole : Option Misfit) → told fault ≡ option_map (λ x. old_half x) here → ((m : Misfit) → here ≡ Some m → whole ≡ Some m) → (fault ≡ Memory) ⊎ (told fault ≡ option_map (λ x. old_half x) whole)
-fault-told fault None whole e first = inl (memory-told fault e)
-fault-told fault (Some m) whole e first = inr (e ∙ ap (option_map (λ x. old_half x)) (sym (first m refl)))
+-- a misfit that is found is the first one
+pub first-misfit : (fault : PairFault) (here whole : Option Misfit) → refusal_of_pairing fault ≡ option_map (λ x. old_half x) here → ((m : Misfit) → here ≡ Some m → whole ≡ Some m) → (fault ≡ Memory) ⊎ (refusal_of_pairing fault ≡ option_map (λ x. old_half x) whole)
+first-misfit fault None whole e first = inl (memory-unless_refused fault e)
+first-misfit fault (Some m) whole e first = inr (e ∙ ap (option_map (λ x. old_half x)) (sym (first m refl)))

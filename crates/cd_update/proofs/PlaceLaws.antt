@@ -5,6 +5,7 @@ use Rattle.std.specs.Option.{option_or, option_to_list}
 use Rattle.std.proofs.lemmas.List.{map-append, append-nil, take_more, take-append-drop}
 use Rattle.cd_base.specs.declared.hash.Hash256.{Hash256}
 use Rattle.cd_cell.specs.FaceView.{FaceView}
+use Rattle.cd_cell.specs.BagView.{BagView}
 use Rattle.cd_cell.specs.Levels.{kid_level}
 use Rattle.cd_cell.specs.Tree.{Tree, cell, Trees, no_trees, tree_and, face_of, hash_at}
 use Rattle.cd_cell.specs.Updates.{is_hidden, wanted, wanted_of_all}
@@ -17,28 +18,28 @@ use Rattle.cd_update.proofs.EachOnceLaws.{fold-append, flat_map-append, first_of
 
 -- ---- the visits so far
 
-pub visited-append : (cells : List FaceView) (refs : List (List ℕ)) (vs ws : List Visit) → visited cells refs (vs ++ ws) ≡ visited cells refs vs ++ visited cells refs ws
-visited-append cells refs vs ws =
-    ap (map (place_of cells refs)) (map-append (λ (v : Visit). v.node) vs ws) ∙ map-append (place_of cells refs) (nodes_of vs) (nodes_of ws)
+pub visited-append : (bag : BagView) (vs ws : List Visit) → visited bag (vs ++ ws) ≡ visited bag vs ++ visited bag ws
+visited-append bag vs ws =
+    ap (map (place_of bag)) (map-append (λ (v : Visit). v.node) vs ws) ∙ map-append (place_of bag) (nodes_of vs) (nodes_of ws)
 
-module _ (cells : List FaceView) (refs : List (List ℕ)) (visits : List Visit) (i : ℕ) (in' : i < length visits) where
-  visited-more : visited cells refs (take (i + 1) visits) ≡ visited cells refs (take i visits) ++ place_of cells refs (visit_at visits i).node ∷ []
+module _ (bag : BagView) (visits : List Visit) (i : ℕ) (in' : i < length visits) where
+  visited-more : visited bag (take (i + 1) visits) ≡ visited bag (take i visits) ++ place_of bag (visit_at visits i).node ∷ []
   visited-more =
-      ap (visited cells refs) (take_more visits i no_visit in')
-      ∙ ap (map (place_of cells refs)) (map-append (λ (v : Visit). v.node) (take i visits) (visit_at visits i ∷ []))
-      ∙ map-append (place_of cells refs) (nodes_of (take i visits)) ((visit_at visits i).node ∷ [])
+      ap (visited bag) (take_more visits i no_visit in')
+      ∙ ap (map (place_of bag)) (map-append (λ (v : Visit). v.node) (take i visits) (visit_at visits i ∷ []))
+      ∙ map-append (place_of bag) (nodes_of (take i visits)) ((visit_at visits i).node ∷ [])
 
-  pub flat_map-more : {B : Type 0} (f : Place → List B) → flat_map f (visited cells refs (take (i + 1) visits)) ≡ flat_map f (visited cells refs (take i visits)) ++ f (place_of cells refs (visit_at visits i).node)
+  pub flat_map-more : {B : Type 0} (f : Place → List B) → flat_map f (visited bag (take (i + 1) visits)) ≡ flat_map f (visited bag (take i visits)) ++ f (place_of bag (visit_at visits i).node)
   flat_map-more f =
       ap (flat_map f) visited-more
-      ∙ flat_map-append f (visited cells refs (take i visits)) (place_of cells refs (visit_at visits i).node ∷ [])
-      ∙ ap (λ xs. flat_map f (visited cells refs (take i visits)) ++ xs) (append-nil (f (place_of cells refs (visit_at visits i).node)))
+      ∙ flat_map-append f (visited bag (take i visits)) (place_of bag (visit_at visits i).node ∷ [])
+      ∙ ap (λ xs. flat_map f (visited bag (take i visits)) ++ xs) (append-nil (f (place_of bag (visit_at visits i).node)))
 
   -- each once, with what comes of one visit more
-  pub each_once-more : {B : Type 0} (like : B → B → Bool) (f : Place → List B) → each_once like (flat_map f (visited cells refs (take (i + 1) visits))) ≡ fold (with_new like) (each_once like (flat_map f (visited cells refs (take i visits)))) (f (place_of cells refs (visit_at visits i).node))
+  pub each_once-more : {B : Type 0} (like : B → B → Bool) (f : Place → List B) → each_once like (flat_map f (visited bag (take (i + 1) visits))) ≡ fold (with_new like) (each_once like (flat_map f (visited bag (take i visits)))) (f (place_of bag (visit_at visits i).node))
   each_once-more like f =
       ap (each_once like) (flat_map-more f)
-      ∙ fold-append (with_new like) [] (flat_map f (visited cells refs (take i visits))) (f (place_of cells refs (visit_at visits i).node))
+      ∙ fold-append (with_new like) [] (flat_map f (visited bag (take i visits))) (f (place_of bag (visit_at visits i).node))
 
 -- ---- places
 
@@ -61,21 +62,21 @@ module _ (H : List ℕ → Hash256) where
 
 -- ---- the first answer of some visits
 
-module _ {B : Type 0} (cells : List FaceView) (refs : List (List ℕ)) (visits : List Visit) (i : ℕ) (in' : i < length visits) (ask : Place → Option B) (none : first_of ask (visited cells refs (take i visits)) ≡ None) where
+module _ {B : Type 0} (bag : BagView) (visits : List Visit) (i : ℕ) (in' : i < length visits) (ask : Place → Option B) (none : first_of ask (visited bag (take i visits)) ≡ None) where
   alone : (o : Option B) → option_or o None ≡ o
   alone None = refl
   alone (Some b) = refl
 
-  pub first_of-more : first_of ask (visited cells refs (take (i + 1) visits)) ≡ ask (place_of cells refs (visit_at visits i).node)
+  pub first_of-more : first_of ask (visited bag (take (i + 1) visits)) ≡ ask (place_of bag (visit_at visits i).node)
   first_of-more =
-      ap (first_of ask) (visited-more cells refs visits i in')
-      ∙ first_of-append ask (visited cells refs (take i visits)) (place_of cells refs (visit_at visits i).node ∷ [])
-      ∙ ap (λ o. option_or o (option_or (ask (place_of cells refs (visit_at visits i).node)) None)) none
-      ∙ alone (ask (place_of cells refs (visit_at visits i).node))
+      ap (first_of ask) (visited-more bag visits i in')
+      ∙ first_of-append ask (visited bag (take i visits)) (place_of bag (visit_at visits i).node ∷ [])
+      ∙ ap (λ o. option_or o (option_or (ask (place_of bag (visit_at visits i).node)) None)) none
+      ∙ alone (ask (place_of bag (visit_at visits i).node))
 
-  pub first_of-stop : (b : B) → ask (place_of cells refs (visit_at visits i).node) ≡ Some b → first_of ask (visited cells refs visits) ≡ Some b
+  pub first_of-stop : (b : B) → ask (place_of bag (visit_at visits i).node) ≡ Some b → first_of ask (visited bag visits) ≡ Some b
   first_of-stop b e =
-      ap (λ vs. first_of ask (visited cells refs vs)) (sym (take-append-drop (i + 1) visits))
-      ∙ ap (first_of ask) (visited-append cells refs (take (i + 1) visits) (drop (i + 1) visits))
-      ∙ first_of-append ask (visited cells refs (take (i + 1) visits)) (visited cells refs (drop (i + 1) visits))
-      ∙ ap (λ o. option_or o (first_of ask (visited cells refs (drop (i + 1) visits)))) (first_of-more ∙ e)
+      ap (λ vs. first_of ask (visited bag vs)) (sym (take-append-drop (i + 1) visits))
+      ∙ ap (first_of ask) (visited-append bag (take (i + 1) visits) (drop (i + 1) visits))
+      ∙ first_of-append ask (visited bag (take (i + 1) visits)) (visited bag (drop (i + 1) visits))
+      ∙ ap (λ o. option_or o (first_of ask (visited bag (drop (i + 1) visits)))) (first_of-more ∙ e)

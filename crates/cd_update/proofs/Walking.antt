@@ -6,6 +6,7 @@ use Rattle.std.proofs.lemmas.List.{map-append, append-nil, reverse-append, rever
 use Rattle.std.proofs.lemmas.List.Elements.{All-nil, All-cons, All-push, All-contains, Contains-push}
 use Rattle.cd_base.specs.declared.hash.Hash256.{Hash256}
 use Rattle.cd_cell.specs.FaceView.{FaceView}
+use Rattle.cd_cell.specs.BagView.{BagView}
 use Rattle.cd_cell.specs.Levels.{kid_level, info_of_face}
 use Rattle.cd_cell.specs.Updates.{is_hidden}
 use Rattle.cd_cell.specs.Bags.{face_at, ref_at, IsBag}
@@ -20,15 +21,15 @@ use Rattle.cd_update.proofs.VisitLaws.{same_node-Decides}
 use Rattle.cd_update.proofs.BagNodes.{next-rises}
 
 -- what was visited, and what is pending, the last one first
-pub record IsWalking (H : List ℕ → Hash256) (cells : List FaceView) (refs : List (List ℕ)) (start : Node) (visits pending : List Visit) : Type 0 where
-  pub left : fold (with_new same_node) (nodes_of visits) (flat_map (nodes_from cells refs) (reverse (nodes_of pending))) ≡ each_once same_node (nodes_from cells refs start)
-  pub settled : IsSettled (λ (n : Node). n.entry) (length cells) (next_nodes cells refs) (nodes_of visits) (reverse (nodes_of pending))
-  pub visits_shown : All (IsShown H cells) visits
-  pub pending_shown : All (IsShown H cells) pending
+pub record IsWalking (H : List ℕ → Hash256) (bag : BagView) (start : Node) (visits pending : List Visit) : Type 0 where
+  pub left : fold (with_new same_node) (nodes_of visits) (flat_map (nodes_from bag) (reverse (nodes_of pending))) ≡ each_once same_node (nodes_from bag start)
+  pub settled : IsSettled (λ (n : Node). n.entry) (length bag.cells) (next_nodes bag) (nodes_of visits) (reverse (nodes_of pending))
+  pub visits_shown : All (IsShown H bag) visits
+  pub pending_shown : All (IsShown H bag) pending
 
 -- the places that are left
-abbrev pub places_left : List FaceView → List (List ℕ) → List Visit → ℕ
-places_left cells refs pending = length (flat_map (nodes_from cells refs) (reverse (nodes_of pending)))
+abbrev pub places_left : BagView → List Visit → ℕ
+places_left bag pending = length (flat_map (nodes_from bag) (reverse (nodes_of pending)))
 
 top-pending : (rest : List Visit) (v : Visit) (pending : List Visit) → pending ≡ rest ++ v ∷ [] → reverse (nodes_of pending) ≡ v.node ∷ reverse (nodes_of rest)
 top-pending rest v pending e =
@@ -36,73 +37,73 @@ top-pending rest v pending e =
     ∙ ap reverse (map-append (λ (w : Visit). w.node) rest (v ∷ []))
     ∙ reverse-append (nodes_of rest) (v.node ∷ [])
 
-module _ (H : List ℕ → Hash256) (cells : List FaceView) (refs : List (List ℕ)) (roots : List ℕ) (bag : IsBag H cells refs roots) where
+module _ (H : List ℕ → Hash256) (bag : BagView) (is_bag : IsBag H bag.cells bag.refs bag.roots) where
   abbrev rank : Node → ℕ
   rank n = n.entry
 
-  pub IsWalking-start : (v : Visit) → IsShown H cells v → IsWalking H cells refs v.node [] (v ∷ [])
+  pub IsWalking-start : (v : Visit) → IsShown H bag v → IsWalking H bag v.node [] (v ∷ [])
   IsWalking-start v shown = record {
-    left = ap (each_once same_node) (append-nil (nodes_from cells refs v.node));
-    settled = settled-start rank (length cells) (next_nodes cells refs) (next-rises H cells refs roots bag) v.node shown.entry;
-    visits_shown = All-nil (IsShown H cells);
-    pending_shown = All-cons (IsShown H cells) v [] shown (All-nil (IsShown H cells));
+    left = ap (each_once same_node) (append-nil (nodes_from bag v.node));
+    settled = settled-start rank (length bag.cells) (next_nodes bag) (next-rises H bag is_bag) v.node shown.entry;
+    visits_shown = All-nil (IsShown H bag);
+    pending_shown = All-cons (IsShown H bag) v [] shown (All-nil (IsShown H bag));
   }
 
-  module _ (start : Node) (visits pending rest : List Visit) (v : Visit) (walking : IsWalking H cells refs start visits pending) (top : pending ≡ rest ++ v ∷ []) where
+  module _ (start : Node) (visits pending rest : List Visit) (v : Visit) (walking : IsWalking H bag start visits pending) (top : pending ≡ rest ++ v ∷ []) where
     stack : reverse (nodes_of pending) ≡ v.node ∷ reverse (nodes_of rest)
     stack = top-pending rest v pending top
 
-    settled : IsSettled rank (length cells) (next_nodes cells refs) (nodes_of visits) (v.node ∷ reverse (nodes_of rest))
-    settled = subst (IsSettled rank (length cells) (next_nodes cells refs) (nodes_of visits)) stack walking.settled
+    settled : IsSettled rank (length bag.cells) (next_nodes bag) (nodes_of visits) (v.node ∷ reverse (nodes_of rest))
+    settled = subst (IsSettled rank (length bag.cells) (next_nodes bag) (nodes_of visits)) stack walking.settled
 
-    left : fold (with_new same_node) (nodes_of visits) (flat_map (nodes_from cells refs) (v.node ∷ reverse (nodes_of rest))) ≡ each_once same_node (nodes_from cells refs start)
-    left = ap (λ s. fold (with_new same_node) (nodes_of visits) (flat_map (nodes_from cells refs) s)) (sym stack) ∙ walking.left
+    left : fold (with_new same_node) (nodes_of visits) (flat_map (nodes_from bag) (v.node ∷ reverse (nodes_of rest))) ≡ each_once same_node (nodes_from bag start)
+    left = ap (λ s. fold (with_new same_node) (nodes_of visits) (flat_map (nodes_from bag) s)) (sym stack) ∙ walking.left
 
-    pub top-shown : IsShown H cells v
-    top-shown = All-contains (IsShown H cells) pending v walking.pending_shown (subst (λ vs. Contains vs v) (sym top) (Contains-push rest v))
+    pub top-shown : IsShown H bag v
+    top-shown = All-contains (IsShown H bag) pending v walking.pending_shown (subst (λ vs. Contains vs v) (sym top) (Contains-push rest v))
 
-    rest_shown : All (IsShown H cells) rest
-    rest_shown = λ k d in'. subst (IsShown H cells) (get_or_append_left rest (v ∷ []) d k in') (subst (All (IsShown H cells)) top walking.pending_shown k d (omega (arith, length_push rest v)))
+    rest_shown : All (IsShown H bag) rest
+    rest_shown = λ k d in'. subst (IsShown H bag) (get_or_append_left rest (v ∷ []) d k in') (subst (All (IsShown H bag)) top walking.pending_shown k d (omega (arith, length_push rest v)))
 
-    pub IsWalking-seen : list_any (same_node v.node) (nodes_of visits) ≡ true → IsWalking H cells refs start visits rest
+    pub IsWalking-seen : list_any (same_node v.node) (nodes_of visits) ≡ true → IsWalking H bag start visits rest
     IsWalking-seen seen =
         let there = contains-any same_node same_node-Decides v.node (nodes_of visits) seen in
-        let rises = next-rises H cells refs roots bag in
+        let rises = next-rises H bag is_bag in
         record {
-          left = sym (left-seen rank (length cells) (next_nodes cells refs) rises same_node same_node-Decides (nodes_of visits) (reverse (nodes_of rest)) v.node settled there) ∙ left;
-          settled = settled-seen rank (length cells) (next_nodes cells refs) rises (nodes_of visits) (reverse (nodes_of rest)) v.node settled there;
+          left = sym (left-seen rank (length bag.cells) (next_nodes bag) rises same_node same_node-Decides (nodes_of visits) (reverse (nodes_of rest)) v.node settled there) ∙ left;
+          settled = settled-seen rank (length bag.cells) (next_nodes bag) rises (nodes_of visits) (reverse (nodes_of rest)) v.node settled there;
           visits_shown = walking.visits_shown;
           pending_shown = rest_shown;
         }
 
-    pub places_left-seen : places_left cells refs rest < places_left cells refs pending
+    pub places_left-seen : places_left bag rest < places_left bag pending
     places_left-seen =
-        omega (arith, fewer-seen rank (length cells) (next_nodes cells refs) (next-rises H cells refs roots bag) (reverse (nodes_of rest)) v.node top-shown.entry, ap (λ s. length (flat_map (nodes_from cells refs) s)) stack)
+        omega (arith, fewer-seen rank (length bag.cells) (next_nodes bag) (next-rises H bag is_bag) (reverse (nodes_of rest)) v.node top-shown.entry, ap (λ s. length (flat_map (nodes_from bag) s)) stack)
 
-    module _ (now : List Visit) (pushed : nodes_of now ≡ nodes_of rest ++ reverse (next_nodes cells refs v.node)) where
-      pushed_stack : reverse (nodes_of now) ≡ next_nodes cells refs v.node ++ reverse (nodes_of rest)
-      pushed_stack = ap reverse pushed ∙ reverse-append (nodes_of rest) (reverse (next_nodes cells refs v.node)) ∙ ap (λ ns. ns ++ reverse (nodes_of rest)) (reverse-reverse (next_nodes cells refs v.node))
+    module _ (now : List Visit) (pushed : nodes_of now ≡ nodes_of rest ++ reverse (next_nodes bag v.node)) where
+      pushed_stack : reverse (nodes_of now) ≡ next_nodes bag v.node ++ reverse (nodes_of rest)
+      pushed_stack = ap reverse pushed ∙ reverse-append (nodes_of rest) (reverse (next_nodes bag v.node)) ∙ ap (λ ns. ns ++ reverse (nodes_of rest)) (reverse-reverse (next_nodes bag v.node))
 
-      pub IsWalking-new : list_any (same_node v.node) (nodes_of visits) ≡ false → (All (IsShown H cells) rest → All (IsShown H cells) now) → IsWalking H cells refs start (visits ++ v ∷ []) now
+      pub IsWalking-new : list_any (same_node v.node) (nodes_of visits) ≡ false → (All (IsShown H bag) rest → All (IsShown H bag) now) → IsWalking H bag start (visits ++ v ∷ []) now
       IsWalking-new new shown =
-          let rises = next-rises H cells refs roots bag in
+          let rises = next-rises H bag is_bag in
           let nodes = sym (map-append (λ (w : Visit). w.node) visits (v ∷ [])) in
           record {
             left =
-                ap₂ (λ there s. fold (with_new same_node) there (flat_map (nodes_from cells refs) s)) (sym nodes) pushed_stack
-                ∙ sym (left-new rank (length cells) (next_nodes cells refs) rises same_node same_node-Decides (nodes_of visits) (reverse (nodes_of rest)) v.node top-shown.entry new)
+                ap₂ (λ there s. fold (with_new same_node) there (flat_map (nodes_from bag) s)) (sym nodes) pushed_stack
+                ∙ sym (left-new rank (length bag.cells) (next_nodes bag) rises same_node same_node-Decides (nodes_of visits) (reverse (nodes_of rest)) v.node top-shown.entry new)
                 ∙ left;
             settled =
-                subst (λ s. IsSettled rank (length cells) (next_nodes cells refs) (nodes_of (visits ++ v ∷ [])) s) (sym pushed_stack)
-                (subst (λ there. IsSettled rank (length cells) (next_nodes cells refs) there (next_nodes cells refs v.node ++ reverse (nodes_of rest))) nodes
-                (settled-new rank (length cells) (next_nodes cells refs) rises (nodes_of visits) (reverse (nodes_of rest)) v.node settled));
-            visits_shown = All-push (IsShown H cells) visits v walking.visits_shown top-shown;
+                subst (λ s. IsSettled rank (length bag.cells) (next_nodes bag) (nodes_of (visits ++ v ∷ [])) s) (sym pushed_stack)
+                (subst (λ there. IsSettled rank (length bag.cells) (next_nodes bag) there (next_nodes bag v.node ++ reverse (nodes_of rest))) nodes
+                (settled-new rank (length bag.cells) (next_nodes bag) rises (nodes_of visits) (reverse (nodes_of rest)) v.node settled));
+            visits_shown = All-push (IsShown H bag) visits v walking.visits_shown top-shown;
             pending_shown = shown rest_shown;
           }
 
-      pub places_left-new : places_left cells refs now < places_left cells refs pending
+      pub places_left-new : places_left bag now < places_left bag pending
       places_left-new =
-          omega (arith, fewer-new rank (length cells) (next_nodes cells refs) (next-rises H cells refs roots bag) (reverse (nodes_of rest)) v.node top-shown.entry, ap (λ s. length (flat_map (nodes_from cells refs) s)) stack, ap (λ s. length (flat_map (nodes_from cells refs) s)) pushed_stack)
+          omega (arith, fewer-new rank (length bag.cells) (next_nodes bag) (next-rises H bag is_bag) (reverse (nodes_of rest)) v.node top-shown.entry, ap (λ s. length (flat_map (nodes_from bag) s)) stack, ap (λ s. length (flat_map (nodes_from bag) s)) pushed_stack)
 
 -- ---- the children of an entry, put behind what is pending
 
@@ -119,21 +120,21 @@ pushed-more initial before v children depth left next in' step here there =
     ∙ append_assoc (nodes_of initial) later (v.node ∷ [])
     ∙ ap (λ ns. nodes_of initial ++ ns) (sym whole)
 
-pub next_nodes-shown : (cells : List FaceView) (refs : List (List ℕ)) (n : Node) → is_hidden n.depth (face_at cells n.entry) ≡ false → next_nodes cells refs n ≡ map (node (kid_level (face_at cells n.entry) n.depth)) (take (length (face_at cells n.entry).kids) (get_or refs n.entry []))
-next_nodes-shown cells refs n e = ap (λ b. if b then [] else map (node (kid_level (face_at cells n.entry) n.depth)) (take (length (face_at cells n.entry).kids) (get_or refs n.entry []))) e
+pub next_nodes-shown : (bag : BagView) (n : Node) → is_hidden n.depth (face_at bag.cells n.entry) ≡ false → next_nodes bag n ≡ map (node (kid_level (face_at bag.cells n.entry) n.depth)) (take (length (face_at bag.cells n.entry).kids) (get_or bag.refs n.entry []))
+next_nodes-shown bag n e = ap (λ b. if b then [] else map (node (kid_level (face_at bag.cells n.entry) n.depth)) (take (length (face_at bag.cells n.entry).kids) (get_or bag.refs n.entry []))) e
 
-pub next_nodes-hidden : (cells : List FaceView) (refs : List (List ℕ)) (n : Node) → is_hidden n.depth (face_at cells n.entry) ≡ true → next_nodes cells refs n ≡ []
-next_nodes-hidden cells refs n e = ap (λ b. if b then [] else map (node (kid_level (face_at cells n.entry) n.depth)) (take (length (face_at cells n.entry).kids) (get_or refs n.entry []))) e
+pub next_nodes-hidden : (bag : BagView) (n : Node) → is_hidden n.depth (face_at bag.cells n.entry) ≡ true → next_nodes bag n ≡ []
+next_nodes-hidden bag n e = ap (λ b. if b then [] else map (node (kid_level (face_at bag.cells n.entry) n.depth)) (take (length (face_at bag.cells n.entry).kids) (get_or bag.refs n.entry []))) e
 
-pub IsShown-child : (H : List ℕ → Hash256) (cells : List FaceView) (refs : List (List ℕ)) (roots : List ℕ) (bag : IsBag H cells refs roots) (k p depth child : ℕ) → k < length cells → p < length (face_at cells k).kids → depth ≤ 3 → child ≡ get_or (take (length (face_at cells k).kids) (get_or refs k [])) p 0 → IsShown H cells (record { node = node depth child; parent = k; place = p })
-IsShown-child H cells refs roots bag k p depth child in' in-kids low e =
-    let number : child ≡ ref_at refs k p = e ∙ get_or-take (length (face_at cells k).kids) (get_or refs k []) p 0 in-kids in
+pub IsShown-child : (H : List ℕ → Hash256) (bag : BagView) (is_bag : IsBag H bag.cells bag.refs bag.roots) (k p depth child : ℕ) → k < length bag.cells → p < length (face_at bag.cells k).kids → depth ≤ 3 → child ≡ get_or (take (length (face_at bag.cells k).kids) (get_or bag.refs k [])) p 0 → IsShown H bag (record { node = node depth child; parent = k; place = p })
+IsShown-child H bag is_bag k p depth child in' in-kids low e =
+    let number : child ≡ ref_at bag.refs k p = e ∙ get_or-take (length (face_at bag.cells k).kids) (get_or bag.refs k []) p 0 in-kids in
     record {
-      entry = omega (arith, number, bag.there k p in' in-kids);
+      entry = omega (arith, number, is_bag.there k p in' in-kids);
       depth = low;
       parent = in';
       place = in-kids;
-      shown = bag.shown k p in' in-kids ∙ ap (λ r. info_of_face H (face_at cells r)) (sym number);
+      shown = is_bag.shown k p in' in-kids ∙ ap (λ r. info_of_face H (face_at bag.cells r)) (sym number);
     }
 
 pub not-true : (b : Bool) → not b ≡ true → b ≡ false

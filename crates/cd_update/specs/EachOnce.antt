@@ -1,4 +1,4 @@
--- The items of a list, each once, in the order of their first places, and walks over a graph.
+-- Trusted: the items of a list, each once, in the order of their first places, and walks over a graph.
 use Rattle.std.specs.Prelude.{ℕ, zero, suc, Bool, if◌then◌else◌, List, [], ◌∷◌, ◌++◌, Option, None}
 use Rattle.std.specs.Option.{option_or}
 use Rattle.std.specs.List.{list_any, fold, flat_map}

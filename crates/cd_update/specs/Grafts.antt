@@ -1,20 +1,16 @@
--- The new half of an update grafted onto what is known of the old tree, by what cells show alone.
-use Rattle.std.specs.Prelude.{◌≡◌, ℕ, ◌+◌, ◌*◌, ◌^◌, ◌<◌, ◌≤◌, if◌then◌else◌, List, [], ◌∷◌, length, All, find, is_some, slice_index_or, Option, None, unwrap_or}
+-- Trusted: the new half of an update grafted onto what is known of the old tree, by what cells show alone.
+use Rattle.std.specs.Prelude.{◌≡◌, ℕ, if◌then◌else◌, List, [], ◌∷◌, map, find, is_some, Option, None, unwrap_or}
+use Rattle.std.specs.List.{flat_map}
 use Rattle.cd_base.specs.declared.hash.Hash256.{Hash256}
 use Rattle.cd_cell.specs.declared.info.ChildInfo.{ChildInfo}
 use Rattle.cd_cell.specs.FaceView.{FaceView}
-use Rattle.cd_cell.specs.CellFaults.{no_info}
 use Rattle.cd_cell.specs.Levels.{kid_level, info_of_face}
-use Rattle.cd_cell.specs.Tree.{Tree, cell, Trees, no_trees, tree_and, info_of, face_of, hash_at, mask_of}
+use Rattle.cd_cell.specs.Tree.{Tree, cell, Trees, no_trees, tree_and, info_of, face_of, hash_at}
 use Rattle.cd_cell.specs.Unfolding.{no_tree}
-use Rattle.cd_cell.specs.Updates.{is_hidden, stands_for, some_unless}
-use Rattle.cd_cell.specs.Bags.{bag_cell}
-use Rattle.cd_update.specs.declared.visit.Visit.{Visit}
-use Rattle.cd_update.specs.EachOnce.{each_once, first_of}
+use Rattle.cd_cell.specs.Updates.{is_hidden, stands_for, some_unless, found_in, grafted, own_cells}
+use Rattle.cd_cell.specs.Equality.{same_info, same_face}
 use Rattle.cd_update.specs.Places.{Place, places}
-use Rattle.cd_update.specs.Nodes.{same_node, nodes_from, IsShown}
-use Rattle.cd_update.specs.Visits.{spot, nodes_of, visit_at}
-use Rattle.cd_update.specs.Pairing.{IsOldInfo}
+use Rattle.cd_update.specs.EachOnce.{each_once, first_of}
 
 -- the first known cell that stands for a hidden one
 abbrev pub known_for : List ChildInfo → ChildInfo → ℕ → Option ChildInfo
@@ -44,17 +40,24 @@ module _ (H : List ℕ → Hash256) (known : List ChildInfo) where
   abbrev pub foreign_at : Place → Option Hash256
   foreign_at p = if is_hidden p.depth (face_of H p.tree) then some_unless (is_some (known_for known (info_of H p.tree) p.depth)) (hash_at H p.tree p.depth) else None
 
-  -- a walk over a half whose hidden cells are known
-  pub record IsGrafting (cells : List FaceView) (refs : List (List ℕ)) (start : Visit) (visits : List Visit) (numbers : List (Option ℕ)) : Type 0 where
-    pub shown : All (IsShown H cells) visits
-    pub first : IsShown H cells start
-    pub nodes : nodes_of visits ≡ each_once same_node (nodes_from cells refs start.node)
-    pub wide : length numbers ≡ 4 * length cells
-    pub low : mask_of H (bag_cell cells refs start.node.entry) < 2 ^ (start.node.depth + 1)
-    pub found : first_of foreign_at (places H (bag_cell cells refs start.node.entry) start.node.depth) ≡ None
-    pub old : All IsOldInfo known
+  -- the hash of the first hidden cell of a half for which none is known
+  abbrev pub foreign_hash : Tree → Option Hash256
+  foreign_hash half = first_of foreign_at (places H half 0)
 
-  -- what was worked out of the visits from a spot on
-  pub record AreGrafted (cells : List FaceView) (refs : List (List ℕ)) (visits : List Visit) (from : ℕ) (infos : List ChildInfo) : Type 0 where
-    pub counted : length infos ≡ length visits
-    pub done : (k : ℕ) → k < length visits → from ≤ spot (visit_at visits k).node → slice_index_or infos k no_info ≡ grafted_info (bag_cell cells refs (visit_at visits k).node.entry) (visit_at visits k).node.depth
+  abbrev pub own_faces_at : List Place → List FaceView
+  own_faces_at ps = flat_map own_face_at ps
+
+  -- the faces of a half's own cells, in preorder, each once
+  abbrev pub own_faces : Tree → List FaceView
+  own_faces half = each_once same_face (own_faces_at (places H half 0))
+
+-- ---- where known infos are those of trees
+
+module _ (H : List ℕ → Hash256) (ts : List Tree) where
+  abbrev pub AreShownBy : List ChildInfo → Type 0
+  AreShownBy infos = infos ≡ each_once same_info (map (info_of H) ts)
+
+  -- a root and own cells are those of a half grafted onto the trees
+  pub record IsGraftOnto (half : Tree) (root : ChildInfo) (cells : List FaceView) : Type 0 where
+    pub root_is : root ≡ info_of H (grafted H (found_in H ts) half 0)
+    pub cells_are : cells ≡ each_once same_face (map (face_of H) (own_cells H (found_in H ts) half 0))

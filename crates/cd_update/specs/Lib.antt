@@ -4,5 +4,8 @@ pub mod Nodes
 pub mod UpdateFaults
 pub mod Visits
 pub mod Pairing
-pub mod Faults
+pub mod Answers
 pub mod Grafts
+pub mod GraftSteps
+pub mod GraftWalks
+pub mod UpdateTrees

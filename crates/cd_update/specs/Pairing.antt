@@ -1,5 +1,6 @@
--- An old half beside the faces that were found for its wanted hashes.
+-- Trusted: an old half beside the faces that were found for its wanted hashes.
 use Rattle.std.specs.Prelude.{◌≡◌, ℕ, min, ◌≤◌, ◌==◌, if◌then◌else◌, List, [], ◌∷◌, Contains, Option, Some, None}
+use Rattle.std.specs.List.{flat_map}
 use Rattle.std.specs.Option.{option_or, option_map, option_to_list}
 use Rattle.cd_base.specs.declared.hash.Hash256.{Hash256}
 use Rattle.cd_cell.specs.declared.info.ChildInfo.{ChildInfo}
@@ -9,8 +10,8 @@ use Rattle.cd_cell.specs.FaceView.{FaceView}
 use Rattle.cd_cell.specs.Levels.{stated_hash}
 use Rattle.cd_cell.specs.CellFaults.{stated_depth_of_kid}
 use Rattle.cd_cell.specs.Steady.{IsSteady}
-use Rattle.cd_cell.specs.Tree.{Tree, subtrees, info_of, face_of, hash_at, rep_of, mask_of, IsWellFormed}
-use Rattle.cd_cell.specs.Equality.{same_hash}
+use Rattle.cd_cell.specs.Tree.{Tree, subtrees, info_of, face_of, hash_at, depth_at, rep_of, mask_of, IsWellFormed}
+use Rattle.cd_cell.specs.Equality.{same_hash, same_info}
 use Rattle.cd_cell.specs.Export.{IsClashFree}
 use Rattle.cd_cell.specs.Updates.{agrees, is_hidden, Misfit, UpdateRefusal, old_hash, old_depth, old_half, some_unless, half_of, wanted, hash_refusal, depth_refusal, half_refusal}
 use Rattle.cd_update.specs.EachOnce.{each_once, first_of}
@@ -59,6 +60,10 @@ module _ (H : List ℕ → Hash256) where
   abbrev pub known_at : Place → List ChildInfo
   known_at p = upto p.depth (info_of H p.tree) ∷ []
 
+  -- what is known of the old cells that an old half meets, in preorder, each once
+  abbrev pub met_infos : Tree → List ChildInfo
+  met_infos half = each_once same_info (flat_map known_at (places H half 0))
+
   module _ (look : Hash256 → Option FaceView) where
     abbrev pub misfit_at : Place → Option Misfit
     misfit_at p =
@@ -68,6 +73,14 @@ module _ (H : List ℕ → Hash256) where
     -- the first cell of an old half, in preorder, that doesn't agree with what was found for it
     abbrev pub first_misfit : Tree → Option Misfit
     first_misfit half = first_of misfit_at (places H half 0)
+
+  -- the first of some places that doesn't agree with the face beside its hash
+  abbrev pub misfit_among : List Place → List (Option FaceView) → Option Misfit
+  misfit_among ps faces = first_of (misfit_at (beside (each_once same_hash (flat_map wanted_at ps)) faces)) ps
+
+  -- an old root beside the hash and the depth of a half
+  abbrev pub half_root_refusal : Tree → ChildInfo → Option UpdateRefusal
+  half_root_refusal half root = root_refusal (hash_at H half 0) (depth_at H half 0) root
 
   -- the hashes of the cells that an update shows of the old tree, each once
   abbrev pub wanted_hashes : Tree → List Hash256

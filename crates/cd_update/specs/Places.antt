@@ -1,4 +1,4 @@
--- The places of a half of an update, in preorder, each with its Merkle depth.
+-- Trusted: the places of a half of an update, in preorder, each with its Merkle depth.
 use Rattle.std.specs.Prelude.{ℕ, List, [], ◌∷◌, ◌++◌, if◌then◌else◌}
 use Rattle.cd_base.specs.declared.hash.Hash256.{Hash256}
 use Rattle.cd_cell.specs.Levels.{kid_level}

@@ -1,4 +1,4 @@
--- The bags that have a Merkle update, by the trees of their roots.
+-- Trusted: the bags that have a Merkle update, by the trees of their roots.
 use Rattle.std.specs.Prelude.{◌≡◌, ℕ, ◌<◌, nat_lt, Bool, true, false, if◌then◌else◌, List, [], ◌∷◌, length, Option, Some, None}
 use Rattle.cd_base.specs.declared.hash.Hash256.{Hash256}
 use Rattle.cd_cell.specs.declared.kind.Kind.{Kind}

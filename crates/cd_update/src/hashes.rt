@@ -4,8 +4,8 @@ ghost use Rattle.cd_cell.specs.Equality.{same_hash};
 ghost use Rattle.cd_update.specs.EachOnce.{with_new};
 ghost use Rattle.cd_cell.specs.Indexes.{IsIndex};
 
-use cd_cell::Index;
 use cd_base::{Hash256, Memory};
+use cd_cell::Index;
 use std::alloc::Global;
 
 /// Hashes in the order in which they came, each once.
@@ -27,8 +27,8 @@ impl Hashes {
         }
     }
 
-    /// The place of a hash, which is put behind the others where it isn't there.
-    pub fn place_of(&mut self, hash: Hash256) -> Result<usize, Memory>
+    /// One hash more, where it isn't there: gives its place.
+    pub fn add(&mut self, hash: Hash256) -> Result<usize, Memory>
         ensures all { IfOk result (λ _. self.new.all.items ≡ with_new same_hash self.old.all.items hash) }
         ensures below { IfOk result (λ place. place < length self.new.all.items) }
         ensures place { IfOk result (λ place. slice_index_or self.new.all.items place no_hash ≡ hash) }

@@ -34,7 +34,7 @@ pub(crate) fn kid_level(face: &Face, depth: u8) -> u8
 
 /// What the cell of a visit shows: it is a kid of its parent's face.
 pub(crate) fn shown_info<'a, H: Hash32>(bag: &'a Bag<H>, visit: &Visit) -> &'a ChildInfo
-    requires { IsShown H.digest_of bag.now.cells visit.now }
+    requires { IsShown H.digest_of bag.now visit.now }
     ensures info { result.now ≡ info_of H.digest_of (bag_tree bag.now visit.now.node.entry) }
     ensures kept { IsBag H.digest_of bag.now.cells bag.now.refs bag.now.roots }
     ensures mask { result.now.mask ≡ mask_of_face (face_at bag.now.cells visit.now.node.entry) }

@@ -6,9 +6,8 @@ ghost use Rattle.cd_update.specs.EachOnce.{with_new};
 ghost use Rattle.cd_cell.specs.Indexes.{IsIndex};
 ghost use Rattle.cd_update.specs.Pairing.{IsOldInfo};
 
-use cd_cell::Index;
 use cd_base::Memory;
-use cd_cell::{ChildInfo, Listed};
+use cd_cell::{ChildInfo, Index, Listed};
 use std::alloc::Global;
 
 /// The old cells that the walk over an old half met, those that it doesn't show included: what each of them

@@ -4,6 +4,7 @@
 mod agree;
 mod graft_fault;
 mod grafting;
+mod half;
 mod hashes;
 mod hidden;
 mod known;

@@ -6,9 +6,8 @@ ghost use Rattle.cd_cell.specs.Equality.{same_face};
 ghost use Rattle.cd_update.specs.EachOnce.{with_new};
 ghost use Rattle.cd_cell.specs.Indexes.{IsIndex};
 
-use cd_cell::Index;
 use cd_base::Memory;
-use cd_cell::{ChildInfo, Face, Hash32};
+use cd_cell::{ChildInfo, Face, Hash32, Index};
 use std::alloc::Global;
 
 /// Own cells in the order in which they came, each once, with what they show.
@@ -81,7 +80,8 @@ impl Own {
         requires infos { self.old.infos.items ≡ map (info_of_face H.digest_of) self.old.cells.items }
         ensures cells { OnOk result (self.new.cells.items ≡ with_new same_face self.old.cells.items face) }
         ensures infos { OnOk result (self.new.infos.items ≡ map (info_of_face H.digest_of) self.new.cells.items) }
-        ensures kept { OnErr result ((self.new.cells.items ≡ self.old.cells.items) × (self.new.infos.items ≡ self.old.infos.items)) }
+        ensures kept_cells { OnErr result (self.new.cells.items ≡ self.old.cells.items) }
+        ensures kept_infos { OnErr result (self.new.infos.items ≡ self.old.infos.items) }
     {
         if self.has::<H>(&face, &info) {
             return Ok(());

@@ -1,16 +1,16 @@
-ghost use Rattle.std.specs.Prelude.{◌≡◌, ◌⊎◌, ◌≤◌, All, map, slice_index_or, None, Some, IfOk, MatchOption, MatchResult};
+ghost use Rattle.std.specs.Prelude.{◌≡◌, ◌≤◌, All, slice_index_or, None, Some, IfOk, MatchOption};
 ghost use Rattle.std.specs.List.{flat_map};
 ghost use Rattle.std.specs.Option.{option_map};
-ghost use Rattle.cd_cell.specs.Tree.{Tree, info_of, hash_at, depth_at};
-ghost use Rattle.cd_cell.specs.Equality.{same_hash, same_info};
-ghost use Rattle.cd_cell.specs.Bags.{bag_tree};
-ghost use Rattle.cd_cell.specs.Updates.{half_of, old_half, known_of};
-ghost use Rattle.cd_update.specs.EachOnce.{each_once, first_of};
-ghost use Rattle.cd_update.specs.Places.{places};
+ghost use Rattle.cd_cell.specs.Tree.{Tree};
+ghost use Rattle.cd_cell.specs.Equality.{same_info};
+ghost use Rattle.cd_cell.specs.Updates.{old_half, known_of};
+ghost use Rattle.cd_update.specs.EachOnce.{each_once};
 ghost use Rattle.cd_update.specs.Nodes.{IsShown};
 ghost use Rattle.cd_update.specs.Visits.{visited};
-ghost use Rattle.cd_update.specs.Pairing.{unlike, beside, root_refusal, wanted_at, known_at, misfit_at, pair_refusal, tree_refusal, AreOf};
-ghost use Rattle.cd_update.specs.Faults.{told};
+ghost use Rattle.cd_update.specs.Pairing.{unlike, half_root_refusal, known_at, misfit_among, met_infos, pair_refusal, tree_refusal, AreOf};
+ghost use Rattle.cd_update.specs.Grafts.{AreShownBy};
+ghost use Rattle.cd_update.specs.UpdateTrees.{tree_of, old_half_of};
+ghost use Rattle.cd_update.specs.Answers.{refusal_of_pairing, PairAnswers};
 
 use crate::agree::agree;
 use crate::hashes::Hashes;
@@ -20,7 +20,6 @@ use crate::pair_fault::PairFault;
 use crate::update::Update;
 use crate::upto::info_upto;
 use crate::visit::Visit;
-use crate::walk::visit_all;
 use crate::wanted::hash_of_visible;
 use cd_base::{Hash256, Memory};
 use cd_cell::{Bag, ChildInfo, Face, Hash32, Listed};
@@ -28,9 +27,7 @@ use std::alloc::Global;
 
 /// Whether an update states the hash and the depth of an old root at level 0.
 fn check_root<H: Hash32>(update: &Update<'_, H>, root: &ChildInfo) -> Result<(), PairFault>
-    ensures { MatchResult result
-        (λ _. root_refusal (hash_at H.digest_of (half_of (bag_tree update.now.bag.now update.now.root) 0) 0) (depth_at H.digest_of (half_of (bag_tree update.now.bag.now update.now.root) 0) 0) root.now ≡ None)
-        (λ fault. root_refusal (hash_at H.digest_of (half_of (bag_tree update.now.bag.now update.now.root) 0) 0) (depth_at H.digest_of (half_of (bag_tree update.now.bag.now update.now.root) 0) 0) root.now ≡ told fault) }
+    ensures { PairAnswers (half_root_refusal H.digest_of (old_half_of update.now) root.now) result }
 {
     let half = shown_info(update.bag, &update.half(0));
     let stated = half.hash_at(0);
@@ -55,8 +52,8 @@ fn unlike_face(
     hash: Hash256,
 ) -> Option<PairFault>
     requires { depth ≤ 3 }
-    ensures { MatchOption result (unlike depth hash (slice_index_or faces.now place None) shown.now ≡ None)
-        (λ fault. told fault ≡ option_map old_half (unlike depth hash (slice_index_or faces.now place None) shown.now)) }
+    ensures { let found = unlike depth hash (slice_index_or faces.now place None) shown.now in
+        MatchOption result (found ≡ None) (λ fault. refusal_of_pairing fault ≡ option_map old_half found) }
 {
     match faces.get(place) {
         Some(Some(stored)) if agree(stored, shown, depth) => None,
@@ -80,17 +77,15 @@ fn check_visits<H: Hash32>(
     visits: &[Visit],
     faces: &[Option<Face>],
 ) -> Result<(), PairFault>
-    requires { All (IsShown H.digest_of bag.now.cells) visits.now }
-    ensures { MatchResult result
-        (λ _. first_of (misfit_at H.digest_of (beside (each_once same_hash (flat_map (wanted_at H.digest_of) (visited bag.now.cells bag.now.refs visits.now))) faces.now)) (visited bag.now.cells bag.now.refs visits.now) ≡ None)
-        (λ fault. (fault ≡ PairFault.Memory) ⊎ (told fault ≡ option_map old_half (first_of (misfit_at H.digest_of (beside (each_once same_hash (flat_map (wanted_at H.digest_of) (visited bag.now.cells bag.now.refs visits.now))) faces.now)) (visited bag.now.cells bag.now.refs visits.now)))) }
+    requires { All (IsShown H.digest_of bag.now) visits.now }
+    ensures { PairAnswers (option_map old_half (misfit_among H.digest_of (visited bag.now visits.now) faces.now)) result }
 {
     let mut hashes = Hashes::new(alloc);
     for visit in visits {
         let Some(hash) = hash_of_visible(bag, visit) else {
             continue;
         };
-        let Ok(place) = hashes.place_of(hash) else {
+        let Ok(place) = hashes.add(hash) else {
             return Err(PairFault::Memory);
         };
         let shown = bag.face(visit.node.entry);
@@ -103,8 +98,9 @@ fn check_visits<H: Hash32>(
 
 /// What the old cells show that some visits met.
 fn infos_of<H: Hash32>(alloc: Global, bag: &Bag<H>, visits: &[Visit]) -> Result<Known, Memory>
-    requires { All (IsShown H.digest_of bag.now.cells) visits.now }
-    ensures { IfOk result (λ known. known.infos ≡ each_once same_info (flat_map (known_at H.digest_of) (visited bag.now.cells bag.now.refs visits.now))) }
+    requires { All (IsShown H.digest_of bag.now) visits.now }
+    ensures { IfOk result (λ known.
+        known.infos ≡ each_once same_info (flat_map (known_at H.digest_of) (visited bag.now visits.now))) }
 {
     let mut infos = Infos::new(alloc);
     for visit in visits {
@@ -125,26 +121,25 @@ pub fn pair_old<H: Hash32>(
     root: &ChildInfo,
     faces: &[Option<Face>],
 ) -> Result<Known, PairFault>
-    ensures refused { MatchResult result (λ _. pair_refusal H.digest_of (bag_tree update.now.bag.now update.now.root) root.now faces.now ≡ None)
-        (λ fault. (fault ≡ PairFault.Memory) ⊎ (told fault ≡ pair_refusal H.digest_of (bag_tree update.now.bag.now update.now.root) root.now faces.now)) }
-    ensures infos { IfOk result (λ known. known.infos ≡ each_once same_info (flat_map (known_at H.digest_of) (places H.digest_of (half_of (bag_tree update.now.bag.now update.now.root) 0) 0))) }
+    ensures refused { PairAnswers (pair_refusal H.digest_of (tree_of update.now) root.now faces.now) result }
+    ensures infos { IfOk result (λ known. known.infos ≡ met_infos H.digest_of (old_half_of update.now)) }
+
     // Over an old tree the refusals are those of the tree, and the known cells are its cells.
-    ensures tree { (t : Tree) → AreOf H.digest_of t (bag_tree update.now.bag.now update.now.root) root.now faces.now → MatchResult result
-        (λ known. (tree_refusal H.digest_of (bag_tree update.now.bag.now update.now.root) t ≡ None)
-        × (known.infos ≡ each_once same_info (map (info_of H.digest_of) (known_of H.digest_of (bag_tree update.now.bag.now update.now.root) t))))
-        (λ fault. (fault ≡ PairFault.Memory) ⊎ (told fault ≡ tree_refusal H.digest_of (bag_tree update.now.bag.now update.now.root) t)) }
+    ensures refused_tree { (t : Tree) → AreOf H.digest_of t (tree_of update.now) root.now faces.now
+        → PairAnswers (tree_refusal H.digest_of (tree_of update.now) t) result }
+    ensures tree { (t : Tree) → AreOf H.digest_of t (tree_of update.now) root.now faces.now
+        → IfOk result (λ known. AreShownBy H.digest_of (known_of H.digest_of (tree_of update.now) t) known.infos) }
 {
     if let Err(fault) = check_root(update, root) {
         return Err(fault);
     }
-    let Ok(walk) = visit_all(alloc, update.bag, update.half(0)) else {
+    let Ok(half) = update.walk(alloc, 0) else {
         return Err(PairFault::Memory);
     };
-    let visits = walk.visits.as_slice();
-    if let Err(fault) = check_visits(alloc, update.bag, visits, faces) {
+    if let Err(fault) = check_visits(alloc, half.bag, half.visits(), faces) {
         return Err(fault);
     }
-    match infos_of(alloc, update.bag, visits) {
+    match infos_of(alloc, half.bag, half.visits()) {
         Ok(known) => Ok(known),
         Err(_) => Err(PairFault::Memory),
     }

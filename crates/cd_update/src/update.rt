@@ -1,7 +1,7 @@
 ghost use Rattle.std.specs.Prelude.{◌≡◌, ◌<◌, None, Some, [], ◌∷◌, IfOk, MatchResult};
 ghost use Rattle.cd_cell.specs.Bags.{bag_tree, bag_trees, IsBag};
-ghost use Rattle.cd_cell.specs.Updates.{half_of};
 ghost use Rattle.cd_update.specs.Nodes.{IsShown};
+ghost use Rattle.cd_update.specs.Visits.{IsHalf};
 ghost use Rattle.cd_update.specs.UpdateFaults.{IsUpdateEntry, fault_of_trees};
 
 use crate::update_fault::UpdateFault;
@@ -21,12 +21,14 @@ pub struct Update<'a, H: Hash32> {
 }
 
 impl<'a, H: Hash32> Update<'a, H> {
+    ghost use Rattle.cd_update.specs.UpdateTrees.{tree_of};
+
     /// The update that a bag has.
     pub fn of(bag: &'a Bag<H>) -> Result<Update<'a, H>, UpdateFault>
         ensures exact { MatchResult result (λ _. fault_of_trees H.digest_of (bag_trees bag.now) ≡ None)
             (λ fault. fault_of_trees H.digest_of (bag_trees bag.now) ≡ Some fault) }
         ensures same { IfOk result (λ update. update.bag.now ≡ bag.now) }
-        ensures root { IfOk result (λ update. bag_trees bag.now ≡ bag_tree bag.now update.root ∷ []) }
+        ensures root { IfOk result (λ update. bag_trees bag.now ≡ tree_of update ∷ []) }
     {
         let [root] = bag.roots() else {
             return Err(UpdateFault::NotUpdate);
@@ -45,9 +47,8 @@ impl<'a, H: Hash32> Update<'a, H> {
     /// The old half in place 0, the new one in place 1.
     pub(crate) fn half(&self, place: u8) -> Visit
         requires { place < 2 }
-        ensures shown { IsShown H.digest_of self.now.bag.now.cells result }
-        ensures depth { result.node.depth ≡ 0 }
-        ensures cell { bag_tree self.now.bag.now result.node.entry ≡ half_of (bag_tree self.now.bag.now self.now.root) place }
+        ensures shown { IsShown H.digest_of self.now.bag.now result }
+        ensures half { IsHalf self.now.bag.now result (tree_of self.now) place }
     {
         let children = self.bag.children(self.root);
         Visit {

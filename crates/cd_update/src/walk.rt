@@ -41,7 +41,8 @@ impl Walk {
         requires depth { node.depth ≤ 3 }
         requires entry { 4 * node.entry + 3 < length self.now.numbers.items }
         ensures value { result ≡ slice_index_or self.now.numbers.items (spot node) None }
-        ensures visit { MatchOption result (list_any (same_node node) (nodes_of self.now.visits.items) ≡ false) (λ k. (k < length self.now.visits.items) × ((visit_at self.now.visits.items k).node ≡ node)) }
+        ensures visit { MatchOption result (list_any (same_node node) (nodes_of self.now.visits.items) ≡ false)
+            (λ k. (k < length self.now.visits.items) × ((visit_at self.now.visits.items k).node ≡ node)) }
     {
         self.numbers[4 * node.entry as usize + node.depth as usize]
     }
@@ -50,8 +51,10 @@ impl Walk {
     fn add(&mut self, visit: Visit) -> Result<bool, Memory>
         requires depth { visit.node.depth ≤ 3 }
         requires entry { 4 * visit.node.entry + 3 < length self.old.numbers.items }
-        ensures new { IfOk result (λ new. new ≡ not (list_any (same_node visit.node) (nodes_of self.old.visits.items))) }
-        ensures visits { IfOk result (λ new. self.new.visits.items ≡ (if new then self.old.visits.items ++ visit ∷ [] else self.old.visits.items)) }
+        ensures new { IfOk result (λ new.
+            new ≡ not (list_any (same_node visit.node) (nodes_of self.old.visits.items))) }
+        ensures visits { IfOk result (λ new. self.new.visits.items
+            ≡ (if new then self.old.visits.items ++ visit ∷ [] else self.old.visits.items)) }
         ensures wide { OnOk result (length self.new.numbers.items ≡ length self.old.numbers.items) }
     {
         if self.number(visit.node).is_some() {
@@ -70,9 +73,11 @@ fn push_children<H: Hash32>(
     visit: Visit,
     pending: &mut Vec<Visit>,
 ) -> Result<(), Memory>
-    requires shown { IsShown H.digest_of bag.now.cells visit }
-    ensures nodes { OnOk result (nodes_of pending.new.items ≡ nodes_of pending.old.items ++ reverse (next_nodes bag.now.cells bag.now.refs visit.node)) }
-    ensures shown { OnOk result (All (IsShown H.digest_of bag.now.cells) pending.old.items → All (IsShown H.digest_of bag.now.cells) pending.new.items) }
+    requires { IsShown H.digest_of bag.now visit }
+    ensures nodes { OnOk result (nodes_of pending.new.items
+        ≡ nodes_of pending.old.items ++ reverse (next_nodes bag.now visit.node)) }
+    ensures shown { OnOk result (All (IsShown H.digest_of bag.now) pending.old.items
+        → All (IsShown H.digest_of bag.now) pending.new.items) }
 {
     let face = bag.face(visit.node.entry);
     if is_hidden(face, shown_info(bag, &visit), visit.node.depth) {
@@ -101,9 +106,10 @@ pub(crate) fn visit_all<H: Hash32>(
     bag: &Bag<H>,
     start: Visit,
 ) -> Result<Walk, Memory>
-    requires { IsShown H.digest_of bag.now.cells start }
-    ensures nodes { IfOk result (λ walk. nodes_of walk.visits.items ≡ each_once same_node (nodes_from bag.now.cells bag.now.refs start.node)) }
-    ensures shown { IfOk result (λ walk. All (IsShown H.digest_of bag.now.cells) walk.visits.items) }
+    requires { IsShown H.digest_of bag.now start }
+    ensures nodes { IfOk result (λ walk.
+        nodes_of walk.visits.items ≡ each_once same_node (nodes_from bag.now start.node)) }
+    ensures shown { IfOk result (λ walk. All (IsShown H.digest_of bag.now) walk.visits.items) }
     ensures wide { IfOk result (λ walk. length walk.numbers.items ≡ 4 * length bag.now.cells) }
 {
     let mut walk = Walk::start(alloc, bag.cells().len())?;

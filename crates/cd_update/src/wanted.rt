@@ -2,7 +2,6 @@ ghost use Rattle.std.specs.Prelude.{◌≡◌, All, IfOk};
 ghost use Rattle.std.specs.List.{flat_map};
 ghost use Rattle.cd_cell.specs.Equality.{same_hash};
 ghost use Rattle.cd_update.specs.EachOnce.{each_once};
-ghost use Rattle.cd_cell.specs.Bags.{bag_tree};
 ghost use Rattle.cd_update.specs.Nodes.{IsShown};
 ghost use Rattle.cd_update.specs.Visits.{place_of, visited};
 ghost use Rattle.cd_update.specs.Pairing.{visible_hash, wanted_at, wanted_hashes};
@@ -11,15 +10,14 @@ use crate::hashes::Hashes;
 use crate::hidden::{is_hidden, shown_info};
 use crate::update::Update;
 use crate::visit::Visit;
-use crate::walk::visit_all;
 use cd_base::{Hash256, Memory};
 use cd_cell::{Bag, Hash32};
 use std::alloc::Global;
 
 /// The hash by which the face of an old cell is found, where the cell is shown.
 pub(crate) fn hash_of_visible<H: Hash32>(bag: &Bag<H>, visit: &Visit) -> Option<Hash256>
-    requires { IsShown H.digest_of bag.now.cells visit.now }
-    ensures { result ≡ visible_hash H.digest_of (place_of bag.now.cells bag.now.refs visit.now.node) }
+    requires { IsShown H.digest_of bag.now visit.now }
+    ensures { result ≡ visible_hash H.digest_of (place_of bag.now visit.now.node) }
 {
     let info = shown_info(bag, visit);
     let depth = visit.node.depth;
@@ -31,26 +29,29 @@ pub(crate) fn hash_of_visible<H: Hash32>(bag: &Bag<H>, visit: &Visit) -> Option<
 
 /// The wanted hashes of some visits.
 fn hashes_of<H: Hash32>(alloc: Global, bag: &Bag<H>, visits: &[Visit]) -> Result<Hashes, Memory>
-    requires { All (IsShown H.digest_of bag.now.cells) visits.now }
-    ensures { IfOk result (λ hashes. hashes.all.items ≡ each_once same_hash (flat_map (wanted_at H.digest_of) (visited bag.now.cells bag.now.refs visits.now))) }
+    requires { All (IsShown H.digest_of bag.now) visits.now }
+    ensures { IfOk result (λ hashes.
+        hashes.all.items ≡ each_once same_hash (flat_map (wanted_at H.digest_of) (visited bag.now visits.now))) }
 {
     let mut hashes = Hashes::new(alloc);
     for visit in visits {
         if let Some(hash) = hash_of_visible(bag, visit) {
-            hashes.place_of(hash)?;
+            hashes.add(hash)?;
         }
     }
     Ok(hashes)
 }
 
 impl<H: Hash32> Update<'_, H> {
+    ghost use Rattle.cd_update.specs.UpdateTrees.{tree_of};
+
     /// The hashes of the cells that the old half shows, in preorder, each once: at Merkle depth `d` a hash at
     /// level `d`. A store has the faces of the old tree under them.
     pub fn wanted(&self, alloc: Global) -> Result<Vec<Hash256>, Memory>
-        ensures { IfOk result (λ hashes. hashes.items ≡ wanted_hashes H.digest_of (bag_tree self.now.bag.now self.now.root)) }
+        ensures { IfOk result (λ hashes. hashes.items ≡ wanted_hashes H.digest_of (tree_of self.now)) }
     {
-        let walk = visit_all(alloc, self.bag, self.half(0))?;
-        let hashes = hashes_of(alloc, self.bag, walk.visits.as_slice())?;
+        let half = self.walk(alloc, 0)?;
+        let hashes = hashes_of(alloc, half.bag, half.visits())?;
         Ok(hashes.all)
     }
 }

@@ -109,7 +109,11 @@ fn weak(last: u8) -> Hash256 {
 }
 
 fn hashes_of(alloc: Global, lasts: &[u8]) -> Result<Vec<Hash256>, AllocError> {
-    lasts.iter().map(|last| weak(*last)).collect(alloc)
+    let mut hashes = Vec::new(alloc);
+    for last in lasts {
+        hashes.push(weak(*last))?;
+    }
+    Ok(hashes)
 }
 
 // What a cell shows: one of mask 0 its hash and its depth, a pruned branch of mask 1 the hash that it states, for a
@@ -136,7 +140,11 @@ fn info_of(shown: Shown) -> ChildInfo {
 }
 
 fn infos_of(alloc: Global, all: &[Shown]) -> Result<Vec<ChildInfo>, AllocError> {
-    all.iter().map(|shown| info_of(*shown)).collect(alloc)
+    let mut infos = Vec::new(alloc);
+    for shown in all {
+        infos.push(info_of(*shown))?;
+    }
+    Ok(infos)
 }
 
 // A face: whether it is exotic, its bytes and how many bits of them, and what its children show.
@@ -324,12 +332,16 @@ fn check_row(rt: &impl Abort, alloc: Global, row: &Row) -> Result<(), Fail> {
     let value = prepare_update(alloc, &update, &old, &faces)?;
     assert!(rt; value.old() == Some(old.rep()));
     assert!(rt; *value.root() == info_of(row.root));
-    assert!(rt; listed(alloc, value.cells())? == hashes_of(alloc, row.listed)?);
+    assert!(rt; hashes_in(alloc, value.cells())? == hashes_of(alloc, row.listed)?);
     Ok(())
 }
 
-fn listed(alloc: Global, cells: &[NewCell]) -> Result<Vec<Hash256>, AllocError> {
-    cells.iter().map(|cell| cell.hash).collect(alloc)
+fn hashes_in(alloc: Global, cells: &[NewCell]) -> Result<Vec<Hash256>, AllocError> {
+    let mut hashes = Vec::new(alloc);
+    for cell in cells {
+        hashes.push(cell.hash)?;
+    }
+    Ok(hashes)
 }
 
 #[test]
@@ -596,7 +608,7 @@ fn each_cell_is_listed_once_in_the_order_of_an_export(rt: HostRuntime) -> Result
         let value = prepare_zero(alloc, &bag_of(alloc, 1, cells)?)?;
         assert!(rt; value.old().is_none());
         assert!(rt; value.root().height() == *height);
-        assert!(rt; listed(alloc, value.cells())? == hashes_of(alloc, hashes)?);
+        assert!(rt; hashes_in(alloc, value.cells())? == hashes_of(alloc, hashes)?);
     }
     Ok(())
 }
@@ -660,11 +672,10 @@ fn counts(
     update: &Update<Sha>,
 ) -> Result<(usize, usize, usize, ChildInfo), Fail> {
     let before = root_of(old)?;
-    let faces: Vec<Option<Face>> = old
-        .cells()
-        .iter()
-        .map(|face| Some(*face))
-        .collect(alloc)?;
+    let mut faces = Vec::new(alloc);
+    for face in old.cells() {
+        faces.push(Some(*face))?;
+    }
     let wanted = update.wanted(alloc)?.len();
     let known = pair_old(alloc, update, &before, &faces)?;
     let value = prepare_update(alloc, update, &before, &faces)?;

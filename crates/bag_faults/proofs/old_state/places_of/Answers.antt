@@ -1,4 +1,4 @@
--- The map has one hash more, under its place.
+-- The index has one hash more, under its place.
 use Rattle.std.proofs.Common.{◌<◌, length, arith}
 use Rattle.bag_faults.proofs.OldStateLaws.{IsIndexed-more}
 use Rattle.bag_faults.proofs.old_state.places_of.Goals as goal
@@ -6,5 +6,5 @@ use Rattle.bag_faults.proofs.old_state.places_of.Goals as goal
 pub loop-place-preserved : goal.loop-place-preserved
 loop-place-preserved c =
     let in' : c.loop-place.place < length c.args.cells.now = omega arith in
-    IsIndexed-more c.loop-place.places c.insert.new.self c.args.cells.now c.loop-place.place c.index-cells-place.result c.index-cells-place.is in'
-    c.in_ok-insert.ensures.updates.0 c.loop-place.invariant
+    IsIndexed-more c.loop-place.places c.push.new.self c.args.cells.now c.loop-place.place c.index-cells-place.result c.index-cells-place.is in'
+    c.in_ok-push.ensures.pushed c.loop-place.invariant

@@ -1,7 +1,7 @@
 -- The faces beside the wanted hashes are those of the state, so the answer is that of its tree.
 use Rattle.std.proofs.Common.{map, ap, ◌∙◌}
 use Rattle.std.proofs.lemmas.Result.{IfOk-weaker}
-use Rattle.cd_cell.specs.Bags.{bag_tree}
+use Rattle.cd_update.specs.UpdateTrees.{tree_of}
 use Rattle.bag_faults.specs.OldStates.{face_in, state_of}
 use Rattle.bag_faults.proofs.OldStateLaws.{AreOf-state}
 use Rattle.bag_faults.proofs.update_verdict.prepare.Goals as goal
@@ -11,9 +11,9 @@ returns-in-Ok g c =
     let H = g.H.Hash32.digest_of in
     let state = c.args.state.now in
     let update = c.args.update.now in
-    let u = bag_tree update.bag.now update.root in
-    let t = state_of H state.whole.root state.whole.cells in
-    let are = AreOf-state H state.whole.root state.whole.cells state.is_state c.root.ensures.kept.plain u c.deref.result.now
+    let u = tree_of update in
+    let t = state_of H state.whole in
+    let are = AreOf-state H state.whole state.is_state c.root.ensures.kept.plain u c.deref.result.now
     (c.deref.ensures.value ∙ c.in-Ok.ensures ∙ ap (map (face_in state.whole.cells)) c.requires) in
     record {
       exact = c.prepare_update.ensures.exact t are;

@@ -2,7 +2,7 @@
 use Rattle.std.proofs.Common.{length, ap, ◌∙◌, arith}
 use Rattle.std.proofs.lemmas.List.{length-map}
 use Rattle.cd_cell.specs.Infos.{rep_of_info}
-use Rattle.cd_cell.specs.Bags.{bag_tree}
+use Rattle.cd_update.specs.UpdateTrees.{tree_of}
 use Rattle.cd_cell.specs.Export.{export_cmp, sorted_distinct}
 use Rattle.cd_cell.specs.Listings.{new_cell_of}
 use Rattle.cd_cell.specs.Updates.{new_cells}
@@ -14,8 +14,8 @@ returns-in-Ok-prepare g c =
     let H = g.H.Hash32.digest_of in
     let state = c.args.state.now in
     let update = c.args.update.now in
-    let u = bag_tree update.bag.now update.root in
-    let t = state_of H state.whole.root state.whole.cells in
+    let u = tree_of update in
+    let t = state_of H state.whole in
     let applied = c.in-Ok-prepare.ensures.applied in
     λ bytes spelt. (
       u,

@@ -1,23 +1,16 @@
-use Rattle.cd_cell.specs.StoredText.{stored_depths}
-use Rattle.cd_boc_read.proofs.StoredTexts.{depth_piece, stored_depths-pieces, first_differs, second_differs, third_differs, last_piece}
+use Rattle.std.proofs.Common.{ap, ◌∙◌}
+use Rattle.std.specs.Int.{w16, to_be_bytes}
+use Rattle.cd_cell.specs.StoredText.{depth_text, stored_depths}
+use Rattle.cd_boc_read.proofs.StoredTexts.{stored_depths-pieces, piece_is, behind_pieces}
 use Rattle.cd_boc_read.proofs.cells.behind_depths.Goals as goal
-
-pub returns-in_default : goal.returns-in_default
-returns-in_default c =
-    let k = c.args.info.now in
-    first_differs (stored_depths k) (depth_piece k 0) (depth_piece k 1) (depth_piece k 2) (depth_piece k 3) c.args.bytes.now (stored_depths-pieces k) c.in_default.ensures
-
-pub returns-in_default-behind_depth : goal.returns-in_default-behind_depth
-returns-in_default-behind_depth c =
-    let k = c.args.info.now in
-    second_differs (stored_depths k) (depth_piece k 0) (depth_piece k 1) (depth_piece k 2) (depth_piece k 3) c.args.bytes.now (stored_depths-pieces k) c.in-Some.one.now c.in-Some.ensures c.in_default-behind_depth.ensures
-
-pub returns-in_default-behind_depth-2 : goal.returns-in_default-behind_depth-2
-returns-in_default-behind_depth-2 c =
-    let k = c.args.info.now in
-    third_differs (stored_depths k) (depth_piece k 0) (depth_piece k 1) (depth_piece k 2) (depth_piece k 3) c.args.bytes.now (stored_depths-pieces k) c.in-Some.one.now c.in-Some.ensures c.in-Some-behind_depth.two.now c.in-Some-behind_depth.ensures c.in_default-behind_depth-2.ensures
 
 pub returns : goal.returns
 returns c =
     let k = c.args.info.now in
-    last_piece (stored_depths k) (depth_piece k 0) (depth_piece k 1) (depth_piece k 2) (depth_piece k 3) c.args.bytes.now (stored_depths-pieces k) c.in-Some.one.now c.in-Some.ensures c.in-Some-behind_depth.two.now c.in-Some-behind_depth.ensures c.in-Some-behind_depth-2.three.now c.in-Some-behind_depth-2.ensures c.behind_depth-4.result c.behind_depth-4.ensures
+    let p0 = piece_is k 0 (depth_text k) (c.to_be_bytes-zero.result) c.if_significant.result.now c.if_significant.ensures (c.to_be_bytes-zero.ensures ∙ ap (to_be_bytes w16) c.depth_at.ensures) in
+    let p1 = piece_is k 1 (depth_text k) (c.to_be_bytes-one.result) c.if_significant-2.result.now c.if_significant-2.ensures (c.to_be_bytes-one.ensures ∙ ap (to_be_bytes w16) c.depth_at-2.ensures) in
+    let p2 = piece_is k 2 (depth_text k) (c.to_be_bytes-two.result) c.if_significant-3.result.now c.if_significant-3.ensures (c.to_be_bytes-two.ensures ∙ ap (to_be_bytes w16) c.depth_at-3.ensures) in
+    let p3 = piece_is k 3 (depth_text k) (c.to_be_bytes-three.result) c.if_significant-4.result.now c.if_significant-4.ensures (c.to_be_bytes-three.ensures ∙ ap (to_be_bytes w16) c.depth_at-4.ensures) in
+    behind_pieces k (depth_text k) (stored_depths k) c.args.bytes.now c.behind.result
+    c.if_significant.result.now c.if_significant-2.result.now c.if_significant-3.result.now c.if_significant-4.result.now p0 p1 p2 p3
+    (stored_depths-pieces k) c.behind.ensures

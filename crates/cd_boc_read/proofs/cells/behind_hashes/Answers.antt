@@ -1,23 +1,16 @@
-use Rattle.cd_cell.specs.StoredText.{stored_hashes}
-use Rattle.cd_boc_read.proofs.StoredTexts.{hash_piece, stored_hashes-pieces, first_differs, second_differs, third_differs, last_piece}
+use Rattle.std.proofs.Common.{ap}
+use Rattle.cd_base.specs.declared.hash.Hash256.{Hash256}
+use Rattle.cd_cell.specs.StoredText.{hash_text, stored_hashes}
+use Rattle.cd_boc_read.proofs.StoredTexts.{stored_hashes-pieces, piece_is, behind_pieces}
 use Rattle.cd_boc_read.proofs.cells.behind_hashes.Goals as goal
-
-pub returns-in_default : goal.returns-in_default
-returns-in_default c =
-    let k = c.args.info.now in
-    first_differs (stored_hashes k) (hash_piece k 0) (hash_piece k 1) (hash_piece k 2) (hash_piece k 3) c.args.bytes.now (stored_hashes-pieces k) c.in_default.ensures
-
-pub returns-in_default-behind_hash : goal.returns-in_default-behind_hash
-returns-in_default-behind_hash c =
-    let k = c.args.info.now in
-    second_differs (stored_hashes k) (hash_piece k 0) (hash_piece k 1) (hash_piece k 2) (hash_piece k 3) c.args.bytes.now (stored_hashes-pieces k) c.in-Some.one.now c.in-Some.ensures c.in_default-behind_hash.ensures
-
-pub returns-in_default-behind_hash-2 : goal.returns-in_default-behind_hash-2
-returns-in_default-behind_hash-2 c =
-    let k = c.args.info.now in
-    third_differs (stored_hashes k) (hash_piece k 0) (hash_piece k 1) (hash_piece k 2) (hash_piece k 3) c.args.bytes.now (stored_hashes-pieces k) c.in-Some.one.now c.in-Some.ensures c.in-Some-behind_hash.two.now c.in-Some-behind_hash.ensures c.in_default-behind_hash-2.ensures
 
 pub returns : goal.returns
 returns c =
     let k = c.args.info.now in
-    last_piece (stored_hashes k) (hash_piece k 0) (hash_piece k 1) (hash_piece k 2) (hash_piece k 3) c.args.bytes.now (stored_hashes-pieces k) c.in-Some.one.now c.in-Some.ensures c.in-Some-behind_hash.two.now c.in-Some-behind_hash.ensures c.in-Some-behind_hash-2.three.now c.in-Some-behind_hash-2.ensures c.behind_hash-4.result c.behind_hash-4.ensures
+    let p0 = piece_is k 0 (hash_text k) (c.hash_at-zero.result.0) c.if_significant.result.now c.if_significant.ensures (ap (λ (h : Hash256). h.0) c.hash_at-zero.ensures) in
+    let p1 = piece_is k 1 (hash_text k) (c.hash_at-one.result.0) c.if_significant-2.result.now c.if_significant-2.ensures (ap (λ (h : Hash256). h.0) c.hash_at-one.ensures) in
+    let p2 = piece_is k 2 (hash_text k) (c.hash_at-two.result.0) c.if_significant-3.result.now c.if_significant-3.ensures (ap (λ (h : Hash256). h.0) c.hash_at-two.ensures) in
+    let p3 = piece_is k 3 (hash_text k) (c.hash_at-three.result.0) c.if_significant-4.result.now c.if_significant-4.ensures (ap (λ (h : Hash256). h.0) c.hash_at-three.ensures) in
+    behind_pieces k (hash_text k) (stored_hashes k) c.args.bytes.now c.behind.result
+    c.if_significant.result.now c.if_significant-2.result.now c.if_significant-3.result.now c.if_significant-4.result.now p0 p1 p2 p3
+    (stored_hashes-pieces k) c.behind.ensures

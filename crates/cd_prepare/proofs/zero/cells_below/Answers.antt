@@ -3,7 +3,7 @@ use Rattle.std.proofs.lemmas.List.{length-map}
 use Rattle.std.proofs.lemmas.Result.{IfOk-weaker}
 use Rattle.cd_cell.specs.declared.new_cell.NewCell.{NewCell}
 use Rattle.cd_cell.specs.GoodFace.{IsGoodFace}
-use Rattle.cd_prepare.specs.declared.key.Key.{Key}
+use Rattle.cd_prepare.specs.declared.key.EntryKey.{EntryKey}
 use Rattle.cd_prepare.specs.Keys.{cell_of_key}
 use Rattle.cd_prepare.proofs.ListLaws.{all-there, listed_cells, few-listed, good-listed}
 use Rattle.cd_prepare.proofs.zero.cells_below.Goals as goal
@@ -11,8 +11,8 @@ use Rattle.cd_prepare.proofs.zero.cells_below.Goals as goal
 pub cells_of-requires : goal.cells_of-requires
 cells_of-requires g c =
     let bag = c.args.root.now.bag.now in
-    subst (λ fs. All (λ (key : Key). key.number < length fs) c.deref.result.now) (sym c.cells.ensures.value)
-    (subst (All (λ (key : Key). key.number < length bag.cells)) (sym c.deref.ensures.value)
+    subst (λ fs. All (λ (key : EntryKey). key.number < length fs) c.deref.result.now) (sym c.cells.ensures.value)
+    (subst (All (λ (key : EntryKey). key.number < length bag.cells)) (sym c.deref.ensures.value)
     (all-there g.H.Hash32.digest_of bag.cells bag.refs bag.roots c.args.root.now.is_bag c.args.root.now.number c.args.root.now.there c.in_ok-keys.keys.items c.sort.new.keys.items c.in_ok-keys.ensures c.sort.ensures))
 
 pub returns-clause-cells : goal.returns-clause-cells

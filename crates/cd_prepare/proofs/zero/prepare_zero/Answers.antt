@@ -10,6 +10,13 @@ new-requires g c =
     IsValid-prepared g.H.Hash32.digest_of bag.cells bag.refs bag.roots start.is_bag start.number start.there start.info c.in-Ok.cells.items start.shown c.in-Ok.ensures.cells
     (sym c.byte.ensures.value ∙ c.if-byte-ne0.false)
 
+pub returns-clause-valid : goal.returns-clause-valid
+returns-clause-valid g c =
+    let start = c.of-start.result in
+    let bag = start.bag.now in
+    IsValid-prepared g.H.Hash32.digest_of bag.cells bag.refs bag.roots start.is_bag start.number start.there c.new.result.root c.new.result.cells (c.new.ensures.root ∙ start.shown) (c.new.ensures.cells ∙ c.in-Ok.ensures.cells)
+    (ap (λ k. k.mask) c.new.ensures.root ∙ sym c.byte.ensures.value ∙ c.if-byte-ne0.false)
+
 pub returns-clause-whole : goal.returns-clause-whole
 returns-clause-whole g c =
     let start = c.of-start.result in

@@ -6,4 +6,4 @@ use Rattle.cd_update.specs.Grafts.{foreign_at}
 use Rattle.cd_update.proofs.grafting.unknown.Given as goal
 
 abbrev pub invariant-loop-visit : goal.invariant-loop-visit
-invariant-loop-visit g l = first_of (foreign_at g.H.Hash32.digest_of l.known.infos) (visited l.bag.cells l.bag.refs (take l.visit-index l.visits)) ≡ None
+invariant-loop-visit g l = first_of (foreign_at g.H.Hash32.digest_of l.known.infos) (visited l.bag (take l.visit-index l.visits)) ≡ None

@@ -20,7 +20,7 @@ returns-then-has g c =
     let hidden = ap (is_hidden n.depth) c.face.ensures.cell ∙ sym c.is_hidden.ensures ∙ c.if-not-is_hidden.false in
     let shown = c.info_upto.ensures ∙ ap (upto n.depth) c.shown_info-info.ensures.info in
     sym
-    (foreign-known H known.infos known.old (place_of bag.cells bag.refs n) c.requires.depth hidden
+    (foreign-known H known.infos known.old (place_of bag n) c.requires.depth hidden
     (ap₂ (λ k ks. list_any (same_info k) ks) (sym shown) (sym c.as_slice.ensures) ∙ sym c.has.ensures ∙ c.if-has.true))
 
 pub returns : goal.returns
@@ -34,5 +34,5 @@ returns g c =
     let shown = c.info_upto.ensures ∙ ap (upto n.depth) c.shown_info-info.ensures.info in
     ap Some (c.hash_at.ensures ∙ ap (λ k. info_hash k n.depth) c.shown_info-info.ensures.info)
     ∙ sym
-    (foreign-unknown H known.infos known.old (place_of bag.cells bag.refs n) c.requires.depth hidden
+    (foreign-unknown H known.infos known.old (place_of bag n) c.requires.depth hidden
     (ap₂ (λ k ks. list_any (same_info k) ks) (sym shown) (sym c.as_slice.ensures) ∙ sym c.has.ensures ∙ c.if-has.false))

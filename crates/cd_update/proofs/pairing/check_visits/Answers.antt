@@ -6,7 +6,7 @@ use Rattle.cd_update.specs.EachOnce.{with_new, each_once, first_of}
 use Rattle.cd_update.specs.Visits.{visit_at, place_of, visited}
 use Rattle.cd_update.specs.Pairing.{beside, unlike, visible_hash, wanted_at, misfit_at}
 use Rattle.cd_update.proofs.PlaceLaws.{first_of-more, first_of-stop}
-use Rattle.cd_update.proofs.PairingLaws.{misfit_at-hidden, misfit_at-visible, wanted-hidden, wanted-visible, look-at, fault-told}
+use Rattle.cd_update.proofs.PairingLaws.{misfit_at-hidden, misfit_at-visible, wanted-hidden, wanted-visible, look-at, first-misfit}
 use Rattle.cd_update.proofs.pairing.check_visits.Goals as goal
 
 pub loop-visit-preserved-in_default : goal.loop-visit-preserved-in_default
@@ -15,13 +15,13 @@ loop-visit-preserved-in_default g c =
     let bag = c.args.bag.now in
     let visits = c.args.visits.now in
     let i = c.loop-visit.visit-index in
-    let p = place_of bag.cells bag.refs (visit_at visits i).node in
-    let look = beside (each_once same_hash (flat_map (wanted_at H) (visited bag.cells bag.refs visits))) c.args.faces.now in
+    let p = place_of bag (visit_at visits i).node in
+    let look = beside (each_once same_hash (flat_map (wanted_at H) (visited bag visits))) c.args.faces.now in
     let in' : i < length visits = omega arith in
     let none : visible_hash H p ≡ None = sym c.hash_of_visible.ensures ∙ c.in_default.is in
     record {
-      all = c.loop-visit.invariant.all ∙ sym (wanted-hidden H bag.cells bag.refs visits i in' none);
-      agree = first_of-more bag.cells bag.refs visits i in' (misfit_at H look) c.loop-visit.invariant.agree ∙ misfit_at-hidden H look p none;
+      all = c.loop-visit.invariant.all ∙ sym (wanted-hidden H bag visits i in' none);
+      agree = first_of-more bag visits i in' (misfit_at H look) c.loop-visit.invariant.agree ∙ misfit_at-hidden H look p none;
     }
 
 pub returns-in-Some-unlike_face : goal.returns-in-Some-unlike_face
@@ -33,16 +33,16 @@ returns-in-Some-unlike_face g c =
     let i = c.loop-visit.visit-index in
     let hash = c.in-Some.hash in
     let place = c.in-Ok.place in
-    let p = place_of bag.cells bag.refs (visit_at visits i).node in
-    let so_far = each_once same_hash (flat_map (wanted_at H) (visited bag.cells bag.refs (take i visits))) in
-    let look = beside (each_once same_hash (flat_map (wanted_at H) (visited bag.cells bag.refs visits))) faces in
+    let p = place_of bag (visit_at visits i).node in
+    let so_far = each_once same_hash (flat_map (wanted_at H) (visited bag (take i visits))) in
+    let look = beside (each_once same_hash (flat_map (wanted_at H) (visited bag visits))) faces in
     let in' : i < length visits = omega arith in
     let some : visible_hash H p ≡ Some hash = sym c.hash_of_visible.ensures ∙ c.in-Some.is in
     let grown = c.in-Ok.ensures.all ∙ ap (λ hs. with_new same_hash hs hash) c.loop-visit.invariant.all in
-    let found = look-at H bag.cells bag.refs visits i in' faces hash place some (omega (arith, c.in-Ok.ensures.below, ap length grown)) (ap (λ hs. get_or hs place no_hash) (sym grown) ∙ c.in-Ok.ensures.place) in
-    let told_here = misfit_at-visible H look p hash some ∙ ap₂ (λ o f. unlike p.depth hash o f) found c.face-shown.ensures.cell in
-    fault-told c.in-Some-unlike_face.fault (unlike p.depth hash (get_or faces place None) c.face-shown.result.now) (first_of (misfit_at H look) (visited bag.cells bag.refs visits)) c.in-Some-unlike_face.ensures
-    (λ m e. first_of-stop bag.cells bag.refs visits i in' (misfit_at H look) c.loop-visit.invariant.agree m (told_here ∙ e))
+    let found = look-at H bag visits i in' faces hash place some (omega (arith, c.in-Ok.ensures.below, ap length grown)) (ap (λ hs. get_or hs place no_hash) (sym grown) ∙ c.in-Ok.ensures.place) in
+    let here = misfit_at-visible H look p hash some ∙ ap₂ (λ o f. unlike p.depth hash o f) found c.face-shown.ensures.cell in
+    first-misfit c.in-Some-unlike_face.fault (unlike p.depth hash (get_or faces place None) c.face-shown.result.now) (first_of (misfit_at H look) (visited bag visits)) c.in-Some-unlike_face.ensures
+    (λ m e. first_of-stop bag visits i in' (misfit_at H look) c.loop-visit.invariant.agree m (here ∙ e))
 
 pub loop-visit-preserved : goal.loop-visit-preserved
 loop-visit-preserved g c =
@@ -53,14 +53,14 @@ loop-visit-preserved g c =
     let i = c.loop-visit.visit-index in
     let hash = c.in-Some.hash in
     let place = c.in-Ok.place in
-    let p = place_of bag.cells bag.refs (visit_at visits i).node in
-    let look = beside (each_once same_hash (flat_map (wanted_at H) (visited bag.cells bag.refs visits))) faces in
+    let p = place_of bag (visit_at visits i).node in
+    let look = beside (each_once same_hash (flat_map (wanted_at H) (visited bag visits))) faces in
     let in' : i < length visits = omega arith in
     let some : visible_hash H p ≡ Some hash = sym c.hash_of_visible.ensures ∙ c.in-Some.is in
     let grown = c.in-Ok.ensures.all ∙ ap (λ hs. with_new same_hash hs hash) c.loop-visit.invariant.all in
-    let found = look-at H bag.cells bag.refs visits i in' faces hash place some (omega (arith, c.in-Ok.ensures.below, ap length grown)) (ap (λ hs. get_or hs place no_hash) (sym grown) ∙ c.in-Ok.ensures.place) in
-    let told_here = misfit_at-visible H look p hash some ∙ ap₂ (λ o f. unlike p.depth hash o f) found c.face-shown.ensures.cell in
+    let found = look-at H bag visits i in' faces hash place some (omega (arith, c.in-Ok.ensures.below, ap length grown)) (ap (λ hs. get_or hs place no_hash) (sym grown) ∙ c.in-Ok.ensures.place) in
+    let here = misfit_at-visible H look p hash some ∙ ap₂ (λ o f. unlike p.depth hash o f) found c.face-shown.ensures.cell in
     record {
-      all = grown ∙ sym (wanted-visible H bag.cells bag.refs visits i in' hash some);
-      agree = first_of-more bag.cells bag.refs visits i in' (misfit_at H look) c.loop-visit.invariant.agree ∙ told_here ∙ c.in_default-unlike_face.ensures;
+      all = grown ∙ sym (wanted-visible H bag visits i in' hash some);
+      agree = first_of-more bag visits i in' (misfit_at H look) c.loop-visit.invariant.agree ∙ here ∙ c.in_default-unlike_face.ensures;
     }

@@ -8,6 +8,6 @@ use Rattle.cd_update.proofs.pairing.check_visits.Given as goal
 
 abbrev pub invariant-loop-visit : goal.invariant-loop-visit
 invariant-loop-visit g l = record {
-  all : l.hashes.all.items ≡ each_once same_hash (flat_map (wanted_at g.H.Hash32.digest_of) (visited l.bag.cells l.bag.refs (take l.visit-index l.visits)));
-  agree : first_of (misfit_at g.H.Hash32.digest_of (beside (each_once same_hash (flat_map (wanted_at g.H.Hash32.digest_of) (visited l.bag.cells l.bag.refs l.visits))) l.faces)) (visited l.bag.cells l.bag.refs (take l.visit-index l.visits)) ≡ None;
+  all : l.hashes.all.items ≡ each_once same_hash (flat_map (wanted_at g.H.Hash32.digest_of) (visited l.bag (take l.visit-index l.visits)));
+  agree : first_of (misfit_at g.H.Hash32.digest_of (beside (each_once same_hash (flat_map (wanted_at g.H.Hash32.digest_of) (visited l.bag l.visits))) l.faces)) (visited l.bag (take l.visit-index l.visits)) ≡ None;
 }

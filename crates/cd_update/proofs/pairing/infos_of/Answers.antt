@@ -25,7 +25,7 @@ loop-visit-preserved g c =
     let info : c.info_upto.result ≡ upto v.node.depth (info_of H t) = c.info_upto.ensures ∙ ap (upto v.node.depth) c.shown_info.ensures.info in
     let grown = c.in_ok-add.ensures.all ∙ ap (with_new same_info c.loop-visit.infos.all.items) info in
     record {
-      all = grown ∙ ap (λ ks. with_new same_info ks (upto v.node.depth (info_of H t))) c.loop-visit.invariant.all ∙ sym (each_once-more bag.cells bag.refs visits i in' same_info (known_at H));
+      all = grown ∙ ap (λ ks. with_new same_info ks (upto v.node.depth (info_of H t))) c.loop-visit.invariant.all ∙ sym (each_once-more bag visits i in' same_info (known_at H));
       old =
           subst (All IsOldInfo) (sym grown)
           (All-with_new IsOldInfo same_info c.loop-visit.infos.all.items (upto v.node.depth (info_of H t)) c.loop-visit.invariant.old

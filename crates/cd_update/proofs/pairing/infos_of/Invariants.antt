@@ -8,6 +8,6 @@ use Rattle.cd_update.proofs.pairing.infos_of.Given as goal
 
 abbrev pub invariant-loop-visit : goal.invariant-loop-visit
 invariant-loop-visit g l = record {
-  all : l.infos.all.items ≡ each_once same_info (flat_map (known_at g.H.Hash32.digest_of) (visited l.bag.cells l.bag.refs (take l.visit-index l.visits)));
+  all : l.infos.all.items ≡ each_once same_info (flat_map (known_at g.H.Hash32.digest_of) (visited l.bag (take l.visit-index l.visits)));
   old : All IsOldInfo l.infos.all.items;
 }

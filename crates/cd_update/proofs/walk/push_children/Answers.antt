@@ -27,9 +27,9 @@ loop-left-preserved g c =
           ∙ pushed-more c.args.pending.now.items c.loop-left.pending.items v children c.kid_level-depth.result left c.loop-left.left in' (omega arith) refl c.loop-left.invariant.nodes;
       shown =
           λ all.
-          subst (All (IsShown H bag.cells)) (sym c.in_ok-push.ensures.items)
-          (All-push (IsShown H bag.cells) c.loop-left.pending.items v (c.loop-left.invariant.shown all)
-          (IsShown-child H bag.cells bag.refs bag.roots c.face-face.ensures.kept k left c.kid_level-depth.result (get_or children left 0) c.requires.shown.entry in-kids c.kid_level-depth.ensures.small (ap (λ xs. get_or xs left 0) c.children-children.ensures.numbers)));
+          subst (All (IsShown H bag)) (sym c.in_ok-push.ensures.items)
+          (All-push (IsShown H bag) c.loop-left.pending.items v (c.loop-left.invariant.shown all)
+          (IsShown-child H bag c.face-face.ensures.kept k left c.kid_level-depth.result (get_or children left 0) c.requires.entry in-kids c.kid_level-depth.ensures.small (ap (λ xs. get_or xs left 0) c.children-children.ensures.numbers)));
     }
 
 pub returns-clause-nodes : goal.returns-clause-nodes
@@ -43,4 +43,4 @@ returns-clause-nodes g c =
     c.loop-left.invariant.nodes
     ∙ ap (λ left. nodes_of c.args.pending.now.items ++ reverse (map (node c.kid_level-depth.result) (drop left c.children-children.result.now))) none
     ∙ ap₂ (λ d xs. nodes_of c.args.pending.now.items ++ reverse (map (node d) xs)) depth c.children-children.ensures.numbers
-    ∙ ap (λ ns. nodes_of c.args.pending.now.items ++ reverse ns) (sym (next_nodes-shown bag.cells bag.refs n shown))
+    ∙ ap (λ ns. nodes_of c.args.pending.now.items ++ reverse ns) (sym (next_nodes-shown bag n shown))

@@ -8,7 +8,7 @@ abbrev pub invariant-loop-left : goal.invariant-loop-left
 invariant-loop-left g l = record {
   low : l.left ≤ length l.children;
   nodes : nodes_of l.pending.items ≡ nodes_of l.initial.pending.items ++ reverse (map (node l.depth) (drop l.left l.children));
-  shown : All (IsShown g.H.Hash32.digest_of l.bag.cells) l.initial.pending.items → All (IsShown g.H.Hash32.digest_of l.bag.cells) l.pending.items;
+  shown : All (IsShown g.H.Hash32.digest_of l.bag) l.initial.pending.items → All (IsShown g.H.Hash32.digest_of l.bag) l.pending.items;
 }
 
 abbrev pub decreases-loop-left : goal.decreases-loop-left

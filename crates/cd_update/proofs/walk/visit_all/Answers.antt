@@ -10,31 +10,31 @@ loop-visit-init g c =
     let bag = c.args.bag.now in
     record {
       walking =
-          subst (λ vs. IsWalking H bag.cells bag.refs c.args.start.node vs c.in_ok-pending.pending.items) (sym c.in_ok-walk.ensures.none)
-          (subst (λ vs. IsWalking H bag.cells bag.refs c.args.start.node [] vs) (sym c.in_ok-pending.ensures.items)
-          (IsWalking-start H bag.cells bag.refs bag.roots c.cells.ensures.kept c.args.start c.requires));
+          subst (λ vs. IsWalking H bag c.args.start.node vs c.in_ok-pending.pending.items) (sym c.in_ok-walk.ensures.none)
+          (subst (λ vs. IsWalking H bag c.args.start.node [] vs) (sym c.in_ok-pending.ensures.items)
+          (IsWalking-start H bag c.cells.ensures.kept c.args.start c.requires));
       wide = c.in_ok-walk.ensures.wide ∙ ap (λ xs. 4 * length xs) c.cells.ensures.value;
     }
 
 pub add-requires-clause-depth : goal.add-requires-clause-depth
 add-requires-clause-depth g c =
     let bag = c.args.bag.now in
-    (top-shown g.H.Hash32.digest_of bag.cells bag.refs bag.roots c.cells.ensures.kept c.args.start.node c.loop-visit.walk.visits.items c.loop-visit.pending.items c.pop.new.self.items c.in-Some.visit c.loop-visit.invariant.walking c.in-Some.ensures.items).depth
+    (top-shown g.H.Hash32.digest_of bag c.cells.ensures.kept c.args.start.node c.loop-visit.walk.visits.items c.loop-visit.pending.items c.pop.new.self.items c.in-Some.visit c.loop-visit.invariant.walking c.in-Some.ensures.items).depth
 
 pub add-requires-clause-entry : goal.add-requires-clause-entry
 add-requires-clause-entry g c =
     let bag = c.args.bag.now in
-    omega (arith, c.loop-visit.invariant.wide, (top-shown g.H.Hash32.digest_of bag.cells bag.refs bag.roots c.cells.ensures.kept c.args.start.node c.loop-visit.walk.visits.items c.loop-visit.pending.items c.pop.new.self.items c.in-Some.visit c.loop-visit.invariant.walking c.in-Some.ensures.items).entry)
+    omega (arith, c.loop-visit.invariant.wide, (top-shown g.H.Hash32.digest_of bag c.cells.ensures.kept c.args.start.node c.loop-visit.walk.visits.items c.loop-visit.pending.items c.pop.new.self.items c.in-Some.visit c.loop-visit.invariant.walking c.in-Some.ensures.items).entry)
 
 pub push_children-requires : goal.push_children-requires
 push_children-requires g c =
     let bag = c.args.bag.now in
-    record { shown = top-shown g.H.Hash32.digest_of bag.cells bag.refs bag.roots c.cells.ensures.kept c.args.start.node c.loop-visit.walk.visits.items c.loop-visit.pending.items c.pop.new.self.items c.in-Some.visit c.loop-visit.invariant.walking c.in-Some.ensures.items }
+    top-shown g.H.Hash32.digest_of bag c.cells.ensures.kept c.args.start.node c.loop-visit.walk.visits.items c.loop-visit.pending.items c.pop.new.self.items c.in-Some.visit c.loop-visit.invariant.walking c.in-Some.ensures.items
 
 pub loop-visit-smaller-in-Continue-branch-4 : goal.loop-visit-smaller-in-Continue-branch-4
 loop-visit-smaller-in-Continue-branch-4 g c =
     let bag = c.args.bag.now in
-    places_left-new g.H.Hash32.digest_of bag.cells bag.refs bag.roots c.cells.ensures.kept c.args.start.node c.loop-visit.walk.visits.items c.loop-visit.pending.items c.pop.new.self.items c.in-Some.visit c.loop-visit.invariant.walking c.in-Some.ensures.items c.push_children.new.pending.items c.in_ok-push_children.ensures.nodes
+    places_left-new g.H.Hash32.digest_of bag c.cells.ensures.kept c.args.start.node c.loop-visit.walk.visits.items c.loop-visit.pending.items c.pop.new.self.items c.in-Some.visit c.loop-visit.invariant.walking c.in-Some.ensures.items c.push_children.new.pending.items c.in_ok-push_children.ensures.nodes
 
 pub loop-visit-preserved-in-Continue-branch-4 : goal.loop-visit-preserved-in-Continue-branch-4
 loop-visit-preserved-in-Continue-branch-4 g c =
@@ -44,8 +44,8 @@ loop-visit-preserved-in-Continue-branch-4 g c =
     let visits = c.in_ok-add.ensures.visits ∙ ap (λ b. if b then c.loop-visit.walk.visits.items ++ c.in-Some.visit ∷ [] else c.loop-visit.walk.visits.items) new in
     record {
       walking =
-          subst (λ vs. IsWalking H bag.cells bag.refs c.args.start.node vs c.push_children.new.pending.items) (sym visits)
-          (IsWalking-new H bag.cells bag.refs bag.roots c.cells.ensures.kept c.args.start.node c.loop-visit.walk.visits.items c.loop-visit.pending.items c.pop.new.self.items c.in-Some.visit c.loop-visit.invariant.walking c.in-Some.ensures.items c.push_children.new.pending.items c.in_ok-push_children.ensures.nodes
+          subst (λ vs. IsWalking H bag c.args.start.node vs c.push_children.new.pending.items) (sym visits)
+          (IsWalking-new H bag c.cells.ensures.kept c.args.start.node c.loop-visit.walk.visits.items c.loop-visit.pending.items c.pop.new.self.items c.in-Some.visit c.loop-visit.invariant.walking c.in-Some.ensures.items c.push_children.new.pending.items c.in_ok-push_children.ensures.nodes
           (not-true _ (sym c.in_ok-add.ensures.new ∙ new)) c.in_ok-push_children.ensures.shown);
       wide = c.in_ok-add.ensures.wide ∙ c.loop-visit.invariant.wide;
     }
@@ -53,7 +53,7 @@ loop-visit-preserved-in-Continue-branch-4 g c =
 pub loop-visit-smaller : goal.loop-visit-smaller
 loop-visit-smaller g c =
     let bag = c.args.bag.now in
-    places_left-seen g.H.Hash32.digest_of bag.cells bag.refs bag.roots c.cells.ensures.kept c.args.start.node c.loop-visit.walk.visits.items c.loop-visit.pending.items c.pop.new.self.items c.in-Some.visit c.loop-visit.invariant.walking c.in-Some.ensures.items
+    places_left-seen g.H.Hash32.digest_of bag c.cells.ensures.kept c.args.start.node c.loop-visit.walk.visits.items c.loop-visit.pending.items c.pop.new.self.items c.in-Some.visit c.loop-visit.invariant.walking c.in-Some.ensures.items
 
 pub loop-visit-preserved : goal.loop-visit-preserved
 loop-visit-preserved g c =
@@ -63,8 +63,8 @@ loop-visit-preserved g c =
     let visits = c.in_ok-add.ensures.visits ∙ ap (λ b. if b then c.loop-visit.walk.visits.items ++ c.in-Some.visit ∷ [] else c.loop-visit.walk.visits.items) new in
     record {
       walking =
-          subst (λ vs. IsWalking H bag.cells bag.refs c.args.start.node vs c.pop.new.self.items) (sym visits)
-          (IsWalking-seen H bag.cells bag.refs bag.roots c.cells.ensures.kept c.args.start.node c.loop-visit.walk.visits.items c.loop-visit.pending.items c.pop.new.self.items c.in-Some.visit c.loop-visit.invariant.walking c.in-Some.ensures.items
+          subst (λ vs. IsWalking H bag c.args.start.node vs c.pop.new.self.items) (sym visits)
+          (IsWalking-seen H bag c.cells.ensures.kept c.args.start.node c.loop-visit.walk.visits.items c.loop-visit.pending.items c.pop.new.self.items c.in-Some.visit c.loop-visit.invariant.walking c.in-Some.ensures.items
           (not-false _ (sym c.in_ok-add.ensures.new ∙ new)));
       wide = c.in_ok-add.ensures.wide ∙ c.loop-visit.invariant.wide;
     }

@@ -5,9 +5,9 @@ use Rattle.cd_update.proofs.walk.visit_all.Given as goal
 
 abbrev pub invariant-loop-visit : goal.invariant-loop-visit
 invariant-loop-visit g l = record {
-  walking : IsWalking g.H.Hash32.digest_of l.bag.cells l.bag.refs l.fn.start.node l.walk.visits.items l.pending.items;
+  walking : IsWalking g.H.Hash32.digest_of l.bag l.fn.start.node l.walk.visits.items l.pending.items;
   wide : length l.walk.numbers.items ≡ 4 * length l.bag.cells;
 }
 
 abbrev pub decreases-loop-visit : goal.decreases-loop-visit
-decreases-loop-visit g l = places_left l.bag.cells l.bag.refs l.pending.items
+decreases-loop-visit g l = places_left l.bag l.pending.items

@@ -7,4 +7,4 @@ use Rattle.cd_update.specs.Pairing.{wanted_at}
 use Rattle.cd_update.proofs.wanted.hashes_of.Given as goal
 
 abbrev pub invariant-loop-visit : goal.invariant-loop-visit
-invariant-loop-visit g l = l.hashes.all.items ≡ each_once same_hash (flat_map (wanted_at g.H.Hash32.digest_of) (visited l.bag.cells l.bag.refs (take l.visit-index l.visits)))
+invariant-loop-visit g l = l.hashes.all.items ≡ each_once same_hash (flat_map (wanted_at g.H.Hash32.digest_of) (visited l.bag (take l.visit-index l.visits)))

@@ -1,0 +1,2 @@
+/// The most bytes that an input may have: 128 MiB, as for the store's program.
+pub const INPUT_LIMIT: u64 = 134_217_728;

@@ -1,0 +1,5 @@
+//! Tests of the top call: what it leaves in a keeper, and what comes of a source, a sink and a keeper that fail.
+#![tactic(auto)]
+
+#[cfg(test)]
+mod tests;

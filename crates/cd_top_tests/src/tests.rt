@@ -1,0 +1,149 @@
+ghost use Rattle.std.specs.Prelude.{◌≡◌, IfSome};
+ghost use Rattle.cd_keeper.specs.Contents.{no_contents};
+
+use cd_base::{Hash256, MemorySink, MemorySource, Sink, Source, SteadySink, SteadySource};
+use cd_cell::Sha;
+use cd_keeper::{KeepFault, Keeper, MemoryKeeper, SteadyKeeper};
+use cd_top::{Ended, Status, celldb_once};
+use std::alloc::Global;
+use std::test::Fail;
+
+/// The bag of the cell without bits and references.
+const ONE_CELL: [u8; 13] = [0xb5, 0xee, 0x9c, 0x72, 1, 1, 1, 1, 0, 2, 0, 0, 0];
+
+/// That cell in all four places of a root.
+const FOUR_PLACES: [u8; 19] = [
+    0xb5, 0xee, 0x9c, 0x72, 1, 1, 2, 1, 0, 8, 0, 4, 0, 1, 1, 1, 1, 0, 0,
+];
+
+/// The hash of that cell: SHA-256 of two zero bytes.
+const EMPTY: Hash256 = Hash256([
+    0x96, 0xa2, 0x96, 0xd2, 0x24, 0xf2, 0x85, 0xc6, 0x7b, 0xee, 0x93, 0xc3, 0x0f, 0x8a, 0x30, 0x91,
+    0x57, 0xf0, 0xda, 0xa3, 0x5d, 0xc5, 0xb8, 0x7e, 0x41, 0x0b, 0x78, 0x63, 0x0a, 0x09, 0xcf, 0xc7,
+]);
+
+const EMPTY_LINES: &str =
+    "id (-1,8000000000000000,0):96a296d224f285c67bee93c30f8a309157f0daa35dc5b87e410b78630a09cfc7:0000000000000000000000000000000000000000000000000000000000000000\ncells 1\n";
+
+/// The command `zero` over these objects.
+fn zero<S: Source, O: Sink, K: Keeper>(
+    alloc: Global,
+    input: &mut S,
+    out: &mut O,
+    keeper: K,
+) -> Result<(Status, K), Fail>
+    requires { IfSome (K.held keeper) (λ contents. contents ≡ no_contents) }
+{
+    let mut words = Vec::new(alloc);
+    words.push(String::from_str(alloc, "zero")?)?;
+    let Ended {
+        status,
+        keeper,
+        of: _,
+    } = celldb_once::<S, O, K, Sha>(alloc, &words, input, out, keeper);
+    Ok((status, keeper))
+}
+
+fn has_cell<K: Keeper>(keeper: &mut K, key: &Hash256, bytes: &[u8]) -> Result<bool, KeepFault> {
+    match keeper.get_cell(key)? {
+        Some(value) => Ok(value.as_slice() == bytes),
+        None => Ok(false),
+    }
+}
+
+/// The keys of the first and of the second record.
+fn first_cells<K: Keeper>(keeper: &mut K) -> Result<(Option<Hash256>, Option<Hash256>), KeepFault> {
+    let Some((first, _)) = keeper.next_cell(None)? else {
+        return Ok((None, None));
+    };
+    let second = keeper.next_cell(Some(first))?.map(|pair| pair.0);
+    Ok((Some(first), second))
+}
+
+/// The description of the one block.
+fn only_desc<K: Keeper>(keeper: &mut K) -> Result<Option<Vec<u8>>, KeepFault> {
+    Ok(keeper.next_desc(None)?.map(|pair| pair.1))
+}
+
+#[test]
+fn one_cell_is_stored_and_printed(rt: HostRuntime) -> Result<(), Fail> {
+    let alloc = rt.alloc();
+    let mut input = SteadySource::new(ONE_CELL.to_vec(alloc)?);
+    let mut out = SteadySink::new(alloc);
+    let (status, mut keeper) = zero(alloc, &mut input, &mut out, SteadyKeeper::new(alloc))?;
+    assert!(rt; status == Status::Ok);
+    assert!(rt; out.taken() == EMPTY_LINES.as_bytes());
+    assert!(rt; has_cell(&mut keeper, &EMPTY, &[1, 0, 0, 0, 1, 0, 0])?);
+    assert!(rt; keeper.batches() == 1);
+    // The description has a version, the root and its depth.
+    let mut due = [1, 0, 0].to_vec(alloc)?;
+    due.extend_from_slice(&EMPTY.0)?;
+    due.extend_from_slice(&[0, 0, 0])?;
+    let found = only_desc(&mut keeper)?.ok_or("no description")?;
+    assert!(rt; found.as_slice() == due.as_slice());
+    Ok(())
+}
+
+#[test]
+fn a_child_in_four_places_counts_four(rt: HostRuntime) -> Result<(), Fail> {
+    let alloc = rt.alloc();
+    let mut input = SteadySource::new(FOUR_PLACES.to_vec(alloc)?);
+    let mut out = SteadySink::new(alloc);
+    let (status, mut keeper) = zero(alloc, &mut input, &mut out, SteadyKeeper::new(alloc))?;
+    assert!(rt; status == Status::Ok);
+    assert!(rt; has_cell(&mut keeper, &EMPTY, &[1, 0, 0, 0, 4, 0, 0])?);
+    let (first, second) = first_cells(&mut keeper)?;
+    let first = first.ok_or("no record")?;
+    let second = second.ok_or("one record")?;
+    let root = if first == EMPTY { second } else { first };
+    let record = keeper.get_cell(&root)?.ok_or("no root")?;
+    assert!(rt; record.as_slice().starts_with(&[1, 0, 0, 0, 1, 4, 0]));
+    Ok(())
+}
+
+#[test]
+fn a_source_that_fails_in_mid_stream_stores_nothing(rt: HostRuntime) -> Result<(), Fail> {
+    let alloc = rt.alloc();
+    let mut input = MemorySource::new(ONE_CELL.to_vec(alloc)?, [1].to_vec(alloc)?);
+    let mut out = SteadySink::new(alloc);
+    let (status, mut keeper) = zero(alloc, &mut input, &mut out, SteadyKeeper::new(alloc))?;
+    assert!(rt; status == Status::ReadFault);
+    assert!(rt; first_cells(&mut keeper)? == (None, None));
+    assert!(rt; out.taken().is_empty());
+    Ok(())
+}
+
+#[test]
+fn a_sink_that_fails_leaves_the_block_stored(rt: HostRuntime) -> Result<(), Fail> {
+    let alloc = rt.alloc();
+    let mut input = SteadySource::new(ONE_CELL.to_vec(alloc)?);
+    let mut out = MemorySink::new(alloc, [0].to_vec(alloc)?);
+    let (status, mut keeper) = zero(alloc, &mut input, &mut out, SteadyKeeper::new(alloc))?;
+    assert!(rt; status == Status::WriteFault);
+    assert!(rt; has_cell(&mut keeper, &EMPTY, &[1, 0, 0, 0, 1, 0, 0])?);
+    Ok(())
+}
+
+#[test]
+fn a_keeper_that_fails_stores_nothing(rt: HostRuntime) -> Result<(), Fail> {
+    let alloc = rt.alloc();
+    // The one call that it gets is the batch.
+    for failing in 0..3 {
+        let mut input = SteadySource::new(ONE_CELL.to_vec(alloc)?);
+        let mut out = SteadySink::new(alloc);
+        let keeper = MemoryKeeper::new(alloc, [failing].to_vec(alloc)?);
+        let (status, mut keeper) = zero(alloc, &mut input, &mut out, keeper)?;
+        let due = if failing == 0 {
+            Status::KeeperFault
+        } else {
+            Status::Ok
+        };
+        assert!(rt; status == due);
+        assert!(rt; keeper.faults() == u64::from(failing == 0));
+        assert!(rt; keeper.batches() == u64::from(failing > 0));
+        assert!(rt; out.taken().is_empty() == (failing == 0));
+        let found = keeper.at(keeper.batches())?.is_some();
+        assert!(rt; found);
+    }
+    Ok(())
+}

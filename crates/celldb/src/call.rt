@@ -1,0 +1,62 @@
+ghost use Rattle.std.specs.Prelude.{◌≡◌, IfSome, drop, map, string_bytes};
+ghost use Rattle.std.specs.Process.{exit_status};
+ghost use Rattle.cd_keeper.specs.Contents.{no_contents};
+ghost use Rattle.cd_top.specs.StatusText.{code_of};
+ghost use Rattle.celldb.specs.Runs.{HasSaid, IsRun};
+
+use cd_base::{Sink, Source, write_all};
+use cd_cell::Hash32;
+use cd_keeper::Keeper;
+use cd_top::{Ended, Status, WordFault, celldb_once};
+use std::alloc::Global;
+use std::io::ErrorKind;
+use std::process::ExitCode;
+
+/// The words behind the program's name, which comes first.
+pub fn words_behind_name(words: &[String]) -> &[String]
+    ensures { result.now ≡ drop 1 words.now }
+{
+    match words {
+        [_, behind @ ..] => behind,
+        [] => words,
+    }
+}
+
+/// The status where the words can't be had: memory ran out, or one isn't UTF-8, and so no word of a command.
+pub fn status_without_words(error: ErrorKind) -> Status {
+    match error {
+        ErrorKind::OutOfMemory => Status::Memory,
+        _ => Status::Usage(WordFault::Usage),
+    }
+}
+
+/// Prints the line of a status to standard error, and gives its number. Where standard error fails, the number tells
+/// all.
+pub fn end<E: Sink>(status: Status, err: &mut E) -> ExitCode
+    ensures coded { exit_status result ≡ code_of status }
+    ensures said { HasSaid E.Sink status err.old err.new }
+{
+    let _ = write_all(err, status.line().as_bytes());
+    ExitCode::from(status.code())
+}
+
+/// One run of the program over the objects of the outside, from its words to its exit status.
+pub fn run<S: Source, O: Sink, E: Sink, K: Keeper, H: Hash32>(
+    alloc: Global,
+    words: &[String],
+    input: &mut S,
+    out: &mut O,
+    err: &mut E,
+    keeper: K,
+) -> ExitCode
+    requires empty { IfSome (K.held keeper) (λ contents. contents ≡ no_contents) }
+    ensures { IsRun H.digest_of S.Source O.Sink E.Sink K.Keeper (map string_bytes words.now)
+        input.old input.new out.old out.new err.old err.new keeper (exit_status result) }
+{
+    let Ended {
+        status,
+        keeper: _,
+        of: _,
+    } = celldb_once::<S, O, K, H>(alloc, words, input, out, keeper);
+    end(status, err)
+}
