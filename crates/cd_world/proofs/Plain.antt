@@ -13,7 +13,7 @@ use Rattle.cd_cell.specs.Tree.{Tree, face_of}
 use Rattle.cd_record.specs.RecordText.{record_text}
 use Rattle.cd_keeper.specs.Contents.{Table, Contents, Change, changed, no_contents, put_all, drop_all}
 use Rattle.cd_world.specs.World.{Block, World, held_cells, count_of}
-use Rattle.cd_world.specs.Image.{plain_record, plain_cells, plain, record_entry, image_of, change_of, IsContentsOf}
+use Rattle.cd_world.specs.Image.{plain_record, plain_cells, plain, record_entry, image_of, change_of, IsContentsOf, IsPlain}
 use Rattle.cd_world.proofs.Puts.{changed-change_of}
 
 -- what version 2 writes is plain
@@ -110,7 +110,15 @@ module _ (H : List ℕ → Hash256) where
       let image = image_of H world in
       record { plainly = ap (λ (t : Table). record { cells = t; descs = image.descs }) cells }
 
+  -- and its records are of version 2
+  pub image-plain : (world : World) → IsPlain (image_of H world)
+  image-plain world = let is = image-is world in record { same = is.plainly }
+
   module _ (world : World) (contents : Contents) (are : IsContentsOf H world contents) where
+    -- contents of version 2 alone are the image itself
+    pub contents-plain : IsPlain contents → contents ≡ image_of H world
+    contents-plain plain_too = sym plain_too.same ∙ are.plainly
+
     -- the record under a hash is that of the image, in version 2
     pub contents-cell : (q : List ℕ) → let image = image_of H world in option_map plain_record (finite.get contents.cells q) ≡ finite.get image.cells q
     contents-cell q = sym (get-plain_cells contents.cells q) ∙ ap (λ (c : Contents). finite.get c.cells q) are.plainly
