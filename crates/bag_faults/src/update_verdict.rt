@@ -44,7 +44,8 @@ fn prepare<H: Hash32>(
     ensures exact { Answers
         (update_fault H.digest_of (tree_of update.now) (state_of H.digest_of state.now.whole)) result }
     ensures applied { IfOk result (λ value.
-        IsUpdateApplied H.digest_of (tree_of update.now) (state_of H.digest_of state.now.whole) value.root value.cells) }
+        IsUpdateApplied H.digest_of (tree_of update.now) (state_of H.digest_of state.now.whole)
+        value.root value.cells) }
 {
     match state.faces(alloc, wanted) {
         Ok(faces) => prepare_update(alloc, update, state.whole.root(), &faces),

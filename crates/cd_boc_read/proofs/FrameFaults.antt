@@ -1,5 +1,5 @@
 -- A fault of the frame is a row that holds of the bytes.
-use Rattle.std.proofs.Common.{◌≡◌, ◌≢◌, ℕ, zero, suc, ◌+◌, ◌-◌, ◌*◌, ◌/◌, ◌%◌, ◌<◌, ◌≤◌, ◌⊎◌, ◌&&◌, ◌||◌, not, Bool, true, false, cond, eqb, leb, ltb, List, [], ◌∷◌, length, get_or, subst, take, drop, Result, Ok, Err, refl, ap, ◌∙◌, inl, inr, add-zero, arith}
+use Rattle.std.proofs.Common.{sym, ap₂, leb-true, ◌≡◌, ◌≢◌, ℕ, zero, suc, ◌+◌, ◌-◌, ◌*◌, ◌/◌, ◌%◌, ◌<◌, ◌≤◌, ◌⊎◌, ◌&&◌, ◌||◌, not, Bool, true, false, cond, eqb, leb, ltb, List, [], ◌∷◌, length, get_or, subst, take, drop, Result, Ok, Err, refl, ap, ◌∙◌, inl, inr, add-zero, arith}
 use Rattle.std.proofs.lemmas.Bool.{ltb-true, ltb-false, eqb-true, eqb-false, true≢false}
 use Rattle.std.proofs.lemmas.Bool.Decides.{nat_tests}
 use Rattle.std.proofs.lemmas.List.{drop-drop, drop-take, take-take, take_all, length-drop, length-take-le}
@@ -13,11 +13,12 @@ use Rattle.cd_boc_read.specs.declared.bag_fault.BagFault.TheVariants.{Magic, Fla
 use Rattle.cd_boc_read.specs.declared.counts.Counts.{Counts}
 use Rattle.cd_boc_read.specs.Reading.{numbers_in, numbers_at, shape_at, are_flags, are_sizes, counts_at, are_cells, roots_at, index_len, end_at, FrameParts, frame_at}
 use Rattle.cd_base.specs.Reading.{◌>>=◌, require, part_at, byte_at, number_at}
-use Rattle.cd_boc_read.specs.Places.{number_in, stated_shape, stated_cells, stated_roots, stated_total, roots_start, index_start, data_start, data_end, bag_end, stated_data}
-use Rattle.cd_boc_read.specs.FaultRows.{Holds}
-use Rattle.cd_base.proofs.ReadingLaws.{ok_is, by_ok}
+use Rattle.cd_boc_read.specs.Places.{stated_root, number_in, stated_shape, stated_cells, stated_roots, stated_total, roots_start, index_start, data_start, data_end, bag_end, stated_data}
+use Rattle.cd_boc_read.specs.FaultRows.{IsShapeRight, AreRootsCounted, AreCountsRight, IsHeaderRight, Holds}
+use Rattle.cd_base.proofs.ReadingLaws.{by_test, ok_is, by_ok}
 use Rattle.cd_boc_read.proofs.PlaceLaws.{Stands, AreStated, Stands-start, Stands-at, length-standing, part_found, byte_found, number_found, shape_found, counts_found}
-use Rattle.cd_boc_read.proofs.NumberFields.{length-numbers_in}
+use Rattle.cd_boc_read.proofs.NumberFields.{both, length-numbers_in}
+use Rattle.cd_boc_read.proofs.HeaderLaws.{cells_below}
 
 -- ---- steps that fail
 
@@ -102,10 +103,35 @@ shape_fails H bytes e is =
     by_err (byte_at cut flags.1) _ e k2 (λ none. let g = byte_fails cut bytes 5 flags.1 f1.1 e none in short (5 + 1) g.1 (omega arith) e g.0) (λ off_bytes e3 k3.
     let f2 = byte_found cut bytes 5 flags.1 f1.1 off_bytes e3 in
     by_fail (are_flags flags.0) (Flags flags.0) _ e k3
-    (λ wrong same. subst (Holds H bytes) same (record { there = omega (arith, f2.1.within); stated = f1.0; wrong = wrong_flags flags.0 wrong })) (λ known k4.
+    (λ wrong same. subst (Holds H bytes) same (record { before = sym f0.0 ∙ eqb-true magic.0 0xb5ee9c72 is_magic; there = omega (arith, f2.1.within); stated = f1.0; wrong = wrong_flags flags.0 wrong })) (λ known k4.
     by_fail (are_sizes (flags.0 % 8) off_bytes.0) (Sizes (flags.0 % 8) off_bytes.0) _ e k4
-    (λ wrong same. subst (Holds H bytes) same (record { there = omega (arith, f2.1.within); size_is = ap (λ n. n % 8) f1.0; off_bytes_is = f2.0; wrong = wrong_sizes (flags.0 % 8) off_bytes.0 wrong })) (λ sized k5.
+    (λ wrong same. subst (Holds H bytes) same (record { before = (sym f0.0 ∙ eqb-true magic.0 0xb5ee9c72 is_magic, ap are_flags (sym f1.0) ∙ known); there = omega (arith, f2.1.within); size_is = ap (λ n. n % 8) f1.0; off_bytes_is = f2.0; wrong = wrong_sizes (flags.0 % 8) off_bytes.0 wrong })) (λ sized k5.
     absurd cc))))))
+
+pub shape_right : (bytes : List ℕ) (x : Shape × List ℕ) → shape_at (Cut (length bytes)) bytes ≡ Ok x → IsShapeRight bytes
+unfolding shape_at
+shape_right bytes x e =
+    let cut = Cut (length bytes) in
+    by_ok (number_at cut 4 bytes) _ x e (λ magic e0 k0.
+    by_test (eqb magic.0 0xb5ee9c72) (Magic magic.0) _ x k0 (λ is_magic k1.
+    by_ok (byte_at cut magic.1) _ x k1 (λ flags e2 k2.
+    by_ok (byte_at cut flags.1) _ x k2 (λ off_bytes e3 k3.
+    by_test (are_flags flags.0) (Flags flags.0) _ x k3 (λ known k4.
+    by_test (are_sizes (flags.0 % 8) off_bytes.0) (Sizes (flags.0 % 8) off_bytes.0) _ x k4 (λ sized k5.
+    let f0 = number_found cut bytes 0 bytes (Stands-start bytes) 4 magic e0 in
+    let f1 = byte_found cut bytes 4 magic.1 f0.1 flags e2 in
+    let f2 = byte_found cut bytes 5 flags.1 f1.1 off_bytes e3 in
+    record {
+      magic = sym f0.0 ∙ eqb-true magic.0 0xb5ee9c72 is_magic;
+      flags = ap are_flags (sym f1.0) ∙ known;
+      sizes = ap₂ (λ m n. are_sizes (m % 8) n) (sym f1.0) (sym f2.0) ∙ sized;
+    }))))))
+
+roots_counted : (roots cells : ℕ) → (leb 1 roots && leb roots cells) ≡ true → (1 ≤ roots) × (roots ≤ cells)
+roots_counted roots cells rooted = let r = both (leb 1 roots) (leb roots cells) rooted in (leb-true 1 roots r.0, leb-true roots cells r.1)
+
+roots_as : {r r' c c' : ℕ} → r ≡ r' → c ≡ c' → (1 ≤ r) × (r ≤ c) → (1 ≤ r') × (r' ≤ c')
+roots_as {r} {r'} {c} {c'} same-r same-c h = (omega (arith, same-r, h.0), omega (arith, same-r, same-c, h.1))
 
 wrong_roots : (roots cells : ℕ) → (leb 1 roots && leb roots cells) ≡ false → (roots ≡ 0) ⊎ (cells < roots)
 wrong_roots roots cells wrong = grind (arith, nat_tests)
@@ -113,9 +139,9 @@ wrong_roots roots cells wrong = grind (arith, nat_tests)
 over_limit : (cells : ℕ) → leb cells 1048576 ≡ false → 1048576 < cells
 over_limit cells over = grind (arith, nat_tests)
 
-pub counts_fail : (H : List ℕ → Hash256) (bytes rest : List ℕ) (e : BagFault) → Stands bytes 6 rest → counts_at (Cut (length bytes)) (stated_shape bytes) rest ≡ Err e → Holds H bytes e
+pub counts_fail : (H : List ℕ → Hash256) (bytes rest : List ℕ) (e : BagFault) → IsShapeRight bytes → Stands bytes 6 rest → counts_at (Cut (length bytes)) (stated_shape bytes) rest ≡ Err e → Holds H bytes e
 unfolding counts_at
-counts_fail H bytes rest e at is =
+counts_fail H bytes rest e shape at is =
     let cut = Cut (length bytes) in
     let s = stated_shape bytes in
     let short : (at : ℕ) → length bytes < at → at ≤ roots_start bytes → (fault : BagFault) → cut ≡ fault → Holds H bytes fault = λ at lt few fault same. subst (Holds H bytes) same (record { end = refl; short = omega arith }) in
@@ -130,12 +156,35 @@ counts_fail H bytes rest e at is =
     let f3 = number_found cut bytes (6 + 3 * s.size) absent.1 third s.off_bytes total e3 in
     let there : roots_start bytes ≤ length bytes = f3.1.within in
     by_fail (leb 1 roots.0 && leb roots.0 cells.0) (Roots roots.0 cells.0) _ e k3
-    (λ wrong same. subst (Holds H bytes) same (record { there = there; roots_are = f1.0; cells_are = f0.0; wrong = wrong_roots roots.0 cells.0 wrong })) (λ rooted k4.
+    (λ wrong same. subst (Holds H bytes) same (record { before = shape; there = there; roots_are = f1.0; cells_are = f0.0; wrong = wrong_roots roots.0 cells.0 wrong })) (λ rooted k4.
+    let counted : AreRootsCounted bytes = roots_as f1.0 f0.0 (roots_counted roots.0 cells.0 rooted) in
     by_fail (eqb absent.0 0) (Absent absent.0) _ e k4
-    (λ some same. subst (Holds H bytes) same (record { there = there; stated = f2.0; some = eqb-false absent.0 0 some })) (λ none k5.
+    (λ some same. subst (Holds H bytes) same (record { before = (shape, counted); there = there; stated = f2.0; some = eqb-false absent.0 0 some })) (λ none k5.
     by_fail (leb cells.0 1048576) (Limit cells.0) _ e k5
-    (λ over same. subst (Holds H bytes) same (record { there = there; stated = f0.0; over = over_limit cells.0 over })) (λ few k6.
+    (λ over same. subst (Holds H bytes) same (record { before = (shape, counted, sym f2.0 ∙ eqb-true absent.0 0 none); there = there; stated = f0.0; over = over_limit cells.0 over })) (λ few k6.
     absurd cc)))))))
+
+pub counts_right : (bytes rest : List ℕ) (x : Counts × List ℕ) → IsShapeRight bytes → Stands bytes 6 rest → counts_at (Cut (length bytes)) (stated_shape bytes) rest ≡ Ok x → AreCountsRight bytes
+unfolding counts_at
+counts_right bytes rest x shape at e =
+    let cut = Cut (length bytes) in
+    let s = stated_shape bytes in
+    by_ok (number_at cut s.size rest) _ x e (λ cells e0 k0.
+    by_ok (number_at cut s.size cells.1) _ x k0 (λ roots e1 k1.
+    by_ok (number_at cut s.size roots.1) _ x k1 (λ absent e2 k2.
+    by_ok (number_at cut s.off_bytes absent.1) _ x k2 (λ total e3 k3.
+    by_test (leb 1 roots.0 && leb roots.0 cells.0) (Roots roots.0 cells.0) _ x k3 (λ rooted k4.
+    by_test (eqb absent.0 0) (Absent absent.0) _ x k4 (λ none k5.
+    by_test (leb cells.0 1048576) (Limit cells.0) _ x k5 (λ few k6.
+    let f0 = number_found cut bytes 6 rest at s.size cells e0 in
+    let f1 = number_found cut bytes (6 + s.size) cells.1 f0.1 s.size roots e1 in
+    let f2 = number_found cut bytes (6 + 2 * s.size) roots.1 (Stands-at bytes (6 + s.size + s.size) (6 + 2 * s.size) roots.1 (omega arith) f1.1) s.size absent e2 in
+    record {
+      shape = shape;
+      rooted = roots_as f1.0 f0.0 (roots_counted roots.0 cells.0 rooted);
+      none = sym f2.0 ∙ eqb-true absent.0 0 none;
+      few = subst (λ n. n ≤ 1048576) f0.0 (leb-true cells.0 1048576 few);
+    })))))))
 
 -- ---- the roots
 
@@ -208,10 +257,10 @@ unfolding are_cells
 first_over cells place [] e is = absurd cc
 first_over cells place (n ∷ ns) e is = over_by cells place n ns e (ltb n cells) refl is (first_over cells (place + 1) ns e)
 
-roots_fail : (H : List ℕ → Hash256) (bytes rest : List ℕ) (counts : Counts) (e : BagFault) → counts.cells ≡ stated_cells bytes → counts.roots ≡ stated_roots bytes → Stands bytes (roots_start bytes) rest
+roots_fail : (H : List ℕ → Hash256) (bytes rest : List ℕ) (counts : Counts) (e : BagFault) → AreCountsRight bytes → counts.cells ≡ stated_cells bytes → counts.roots ≡ stated_roots bytes → Stands bytes (roots_start bytes) rest
     → roots_at (Cut (length bytes)) (stated_shape bytes).size counts rest ≡ Err e → Holds H bytes e
 unfolding roots_at
-roots_fail H bytes rest counts e cells roots at is =
+roots_fail H bytes rest counts e before cells roots at is =
     let cut = Cut (length bytes) in
     let size = (stated_shape bytes).size in
     let place = roots_start bytes in
@@ -223,6 +272,7 @@ roots_fail H bytes rest counts e cells roots at is =
     let o = first_over counts.cells 0 ns.0 e wrong in
     let named : o.at < stated_roots bytes = omega (arith, o.within, f.1, roots) in
     subst (Holds H bytes) (ap RootIndex (let same : o.at ≡ 0 + o.at = omega arith in same) ∙ o.fault) (record {
+      before = before;
       there = omega (arith, f.2.within, ends);
       named = named;
       none = omega (arith, o.over, f.0 o.at (omega (arith, o.within, f.1)), cells);
@@ -237,9 +287,22 @@ roots_found cut bytes rest size counts {place} at x e =
     let f = numbers_found cut bytes place rest at size counts.roots roots e0 in
     subst (λ (y : List ℕ × List ℕ). Stands bytes (place + counts.roots * size) y.1) (ok_is roots x k1) f.2))
 
+roots_right : (bytes rest : List ℕ) (counts : Counts) (x : List ℕ × List ℕ) → counts.cells ≡ stated_cells bytes → counts.roots ≡ stated_roots bytes → Stands bytes (roots_start bytes) rest
+    → roots_at (Cut (length bytes)) (stated_shape bytes).size counts rest ≡ Ok x → (root : ℕ) → root < stated_roots bytes → stated_root bytes root < stated_cells bytes
+unfolding roots_at
+roots_right bytes rest counts x cells roots at e =
+    let cut = Cut (length bytes) in
+    let size = (stated_shape bytes).size in
+    let place = roots_start bytes in
+    by_ok (numbers_at cut size counts.roots rest) _ x e (λ ns e0 k0.
+    by_ok (are_cells counts.cells 0 ns.0) _ x k0 (λ u e1 k1.
+    let f = numbers_found cut bytes place rest at size counts.roots ns e0 in
+    let below = cells_below counts.cells 0 ns.0 u e1 in
+    λ root named. omega (arith, below root (omega (arith, named, f.1, roots)), f.0 root (omega (arith, named, roots)), cells)))
+
 -- ---- the end
 
-module _ (H : List ℕ → Hash256) (bytes rest : List ℕ) (at : Stands bytes (data_end bytes) rest) (e : BagFault) where
+module _ (H : List ℕ → Hash256) (bytes rest : List ℕ) (header : IsHeaderRight bytes) (at : Stands bytes (data_end bytes) rest) (e : BagFault) where
   front_is : take (length bytes - length rest) bytes ≡ take (data_end bytes) bytes
   front_is = ap (λ n. take n bytes) (let same : length bytes - length rest ≡ data_end bytes = omega (arith, length-standing bytes (data_end bytes) rest at) in same)
 
@@ -256,11 +319,12 @@ module _ (H : List ℕ → Hash256) (bytes rest : List ℕ) (at : Stands bytes (
       (λ none. let g = part_fails cut bytes (data_end bytes) rest at 4 e none in subst (Holds H bytes) g.0 (record { end = refl; short = omega (arith, g.1, ends) })) (λ crc e0 k0.
       let f = part_found cut bytes (data_end bytes) rest at 4 crc e0 in
       by_fail (eqb (length crc.1) 0) (Extra (length front + 4)) _ e k0
-      (λ left same. subst (Holds H bytes) same (record { end = omega (arith, ends, front_len); left = omega (arith, ends, length-standing bytes (data_end bytes + 4) crc.1 f.1, eqb-false (length crc.1) 0 left) })) (λ none k1.
+      (λ left same. subst (Holds H bytes) same (record { before = header; end = omega (arith, ends, front_len); left = omega (arith, ends, length-standing bytes (data_end bytes + 4) crc.1 f.1, eqb-false (length crc.1) 0 left) })) (λ none k1.
       let g = test_fails (eqb (from_little crc.0) (crc32c front)) (Crc (from_little crc.0) (crc32c front)) e k1 in
       let behind : length crc.1 ≡ 0 = eqb-true (length crc.1) 0 none in
       let whole : crc.0 ≡ drop (data_end bytes) bytes = f.0 ∙ take_all 4 (drop (data_end bytes) bytes) (omega (arith, length-drop (data_end bytes) bytes, length-standing bytes (data_end bytes + 4) crc.1 f.1)) in
       subst (Holds H bytes) g.1 (record {
+        before = header;
         announced = has;
         whole = omega (arith, ends, length-standing bytes (data_end bytes + 4) crc.1 f.1);
         stated_is = ap from_little whole;
@@ -270,7 +334,7 @@ module _ (H : List ℕ → Hash256) (bytes rest : List ℕ) (at : Stands bytes (
   end_fails false has is =
       let ends : bag_end bytes ≡ data_end bytes + 0 = ap (λ b. data_end bytes + cond b 4 0) has in
       let g = test_fails (eqb (length rest) 0) (Extra (length (take (data_end bytes) bytes))) e is in
-      subst (Holds H bytes) g.1 (record { end = omega (arith, ends, front_len); left = omega (arith, ends, length-standing bytes (data_end bytes) rest at, eqb-false (length rest) 0 g.0) })
+      subst (Holds H bytes) g.1 (record { before = header; end = omega (arith, ends, front_len); left = omega (arith, ends, length-standing bytes (data_end bytes) rest at, eqb-false (length rest) 0 g.0) })
 
 -- ---- the frame
 
@@ -302,12 +366,13 @@ behind_shape bytes s rest = do
   _ ← end_at (Cut (length bytes)) s.has_crc (take (length bytes - length cell_data.1) bytes) cell_data.1
   Ok (record { shape = s; cells = counts.0.cells; roots = roots.0; index = index.0; cell_data = cell_data.0 })
 
-behind_fails : (H : List ℕ → Hash256) (bytes rest : List ℕ) (e : BagFault) → Stands bytes (roots_start bytes) rest → behind_counts bytes (counts_stated bytes) rest ≡ Err e → Holds H bytes e
-behind_fails H bytes rest e at is =
+behind_fails : (H : List ℕ → Hash256) (bytes rest : List ℕ) (e : BagFault) → AreCountsRight bytes → Stands bytes (roots_start bytes) rest → behind_counts bytes (counts_stated bytes) rest ≡ Err e → Holds H bytes e
+behind_fails H bytes rest e before at is =
     let cut = Cut (length bytes) in
     let s = stated_shape bytes in
     let counts = counts_stated bytes in
-    by_err (roots_at cut s.size counts rest) _ e is (λ wrong. roots_fail H bytes rest counts e refl refl at wrong) (λ roots e0 k0.
+    by_err (roots_at cut s.size counts rest) _ e is (λ wrong. roots_fail H bytes rest counts e before refl refl at wrong) (λ roots e0 k0.
+    let header : IsHeaderRight bytes = record { counts = before; roots = roots_right bytes rest counts roots refl refl at e0 } in
     let f0 = roots_found cut bytes rest s.size counts at roots e0 in
     by_err (part_at cut (index_len s counts.cells) roots.1) _ e k0
     (λ none. let g = part_fails cut bytes (index_start bytes) roots.1 f0 (index_len s counts.cells) e none in subst (Holds H bytes) g.0 (record { end = refl; short = omega (arith, g.1) })) (λ index e1 k1.
@@ -315,9 +380,9 @@ behind_fails H bytes rest e at is =
     by_err (part_at cut counts.total index.1) _ e k1
     (λ none. let g = part_fails cut bytes (data_start bytes) index.1 f1.1 counts.total e none in subst (Holds H bytes) g.0 (record { end = refl; short = omega (arith, g.1) })) (λ cell_data e2 k2.
     let f2 = part_found cut bytes (data_start bytes) index.1 f1.1 counts.total cell_data e2 in
-    let front = front_is H bytes cell_data.1 f2.1 e in
+    let front = front_is H bytes cell_data.1 header f2.1 e in
     by_err (end_at cut s.has_crc (take (length bytes - length cell_data.1) bytes) cell_data.1) _ e k2
-    (λ wrong. end_fails H bytes cell_data.1 f2.1 e s.has_crc refl (subst (λ (w : List ℕ). end_at cut s.has_crc w cell_data.1 ≡ Err e) front wrong)) (λ u e3 k3. absurd cc))))
+    (λ wrong. end_fails H bytes cell_data.1 header f2.1 e s.has_crc refl (subst (λ (w : List ℕ). end_at cut s.has_crc w cell_data.1 ≡ Err e) front wrong)) (λ u e3 k3. absurd cc))))
 
 pub frame_fails : (H : List ℕ → Hash256) (bytes : List ℕ) (e : BagFault) → frame_at bytes ≡ Err e → Holds H bytes e
 unfolding frame_at
@@ -326,9 +391,9 @@ frame_fails H bytes e is =
     by_err (shape_at cut bytes) _ e is (λ wrong. shape_fails H bytes e wrong) (λ shape e0 k0.
     let f0 = shape_found cut bytes shape e0 in
     let k1 : behind_shape bytes (stated_shape bytes) shape.1 ≡ Err e = subst (λ (s : Shape). behind_shape bytes s shape.1 ≡ Err e) f0.0 k0 in
-    by_err (counts_at cut (stated_shape bytes) shape.1) _ e k1 (λ wrong. counts_fail H bytes shape.1 e f0.1 wrong) (λ counts e1 k2.
+    by_err (counts_at cut (stated_shape bytes) shape.1) _ e k1 (λ wrong. counts_fail H bytes shape.1 e (shape_right bytes shape e0) f0.1 wrong) (λ counts e1 k2.
     let f1 = counts_found cut (stated_shape bytes) bytes shape.1 counts f0.1 e1 in
-    behind_fails H bytes counts.1 e f1.1 (subst (λ (c : Counts). behind_counts bytes c counts.1 ≡ Err e) (counts_are bytes counts.0 f1.0) k2)))
+    behind_fails H bytes counts.1 e (counts_right bytes shape.1 counts (shape_right bytes shape e0) f0.1 e1) f1.1 (subst (λ (c : Counts). behind_counts bytes c counts.1 ≡ Err e) (counts_are bytes counts.0 f1.0) k2)))
 
 -- the parts of a frame that was read are those at their places
 pub record IsFrameFound (bytes : List ℕ) (p : FrameParts) : Type 0 where
@@ -337,9 +402,10 @@ pub record IsFrameFound (bytes : List ℕ) (p : FrameParts) : Type 0 where
   pub index : p.index ≡ take (index_len (stated_shape bytes) (stated_cells bytes)) (drop (index_start bytes) bytes)
   pub cell_data : p.cell_data ≡ stated_data bytes
   pub within : data_end bytes ≤ length bytes
+  pub header : IsHeaderRight bytes
 
-behind_found : (bytes rest : List ℕ) (p : FrameParts) → Stands bytes (roots_start bytes) rest → behind_counts bytes (counts_stated bytes) rest ≡ Ok p → IsFrameFound bytes p
-behind_found bytes rest p at is =
+behind_found : (bytes rest : List ℕ) (p : FrameParts) → AreCountsRight bytes → Stands bytes (roots_start bytes) rest → behind_counts bytes (counts_stated bytes) rest ≡ Ok p → IsFrameFound bytes p
+behind_found bytes rest p before at is =
     let cut = Cut (length bytes) in
     let s = stated_shape bytes in
     let counts = counts_stated bytes in
@@ -351,7 +417,7 @@ behind_found bytes rest p at is =
     let f2 = part_found cut bytes (data_start bytes) index.1 f1.1 counts.total cell_data e2 in
     by_ok (end_at cut s.has_crc (take (length bytes - length cell_data.1) bytes) cell_data.1) _ p k2 (λ u e3 k3.
     subst (IsFrameFound bytes) (ok_is (record { shape = s; cells = counts.cells; roots = roots.0; index = index.0; cell_data = cell_data.0 }) p k3)
-    (record { shape = refl; cells = refl; index = f1.0; cell_data = f2.0; within = f2.1.within })))))
+    (record { shape = refl; cells = refl; index = f1.0; cell_data = f2.0; within = f2.1.within; header = record { counts = before; roots = roots_right bytes rest counts roots refl refl at e0 } })))))
 
 pub frame_found : (bytes : List ℕ) (p : FrameParts) → frame_at bytes ≡ Ok p → IsFrameFound bytes p
 unfolding frame_at
@@ -362,4 +428,4 @@ frame_found bytes p is =
     let k1 : behind_shape bytes (stated_shape bytes) shape.1 ≡ Ok p = subst (λ (s : Shape). behind_shape bytes s shape.1 ≡ Ok p) f0.0 k0 in
     by_ok (counts_at cut (stated_shape bytes) shape.1) _ p k1 (λ counts e1 k2.
     let f1 = counts_found cut (stated_shape bytes) bytes shape.1 counts f0.1 e1 in
-    behind_found bytes counts.1 p f1.1 (subst (λ (c : Counts). behind_counts bytes c counts.1 ≡ Ok p) (counts_are bytes counts.0 f1.0) k2)))
+    behind_found bytes counts.1 p (counts_right bytes shape.1 counts (shape_right bytes shape e0) f0.1 e1) f1.1 (subst (λ (c : Counts). behind_counts bytes c counts.1 ≡ Ok p) (counts_are bytes counts.0 f1.0) k2)))

@@ -169,7 +169,7 @@ module _ (H : List ℕ → Hash256) where
       let at : texts_at (stated_shape bytes) (stated_cells bytes) (stated_total bytes) (stated_cells bytes) 0 (drop (0 * (stated_shape bytes).off_bytes) (take (index_len (stated_shape bytes) (stated_cells bytes)) (drop (index_start bytes) bytes))) (stated_data bytes) ≡ Err e =
       same_texts bytes p f total ∙ wrong
       in
-      texts_fail H bytes total (IsBytes-take (stated_total bytes) (drop (data_start bytes) bytes) (IsBytes-drop (data_start bytes) bytes fit))
+      texts_fail H bytes total (IsBytes-take (stated_total bytes) (drop (data_start bytes) bytes) (IsBytes-drop (data_start bytes) bytes fit)) f.header
       (take (index_len (stated_shape bytes) (stated_cells bytes)) (drop (index_start bytes) bytes)) (entry_stated bytes) (stated_cells bytes) 0 (stated_data bytes) e (omega arith) (first_stands (stated_shape bytes).size (stated_data bytes)) at)
       (λ texts e1 k1. absurd cc))
     where

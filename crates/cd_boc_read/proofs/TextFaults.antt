@@ -14,7 +14,7 @@ use Rattle.cd_boc_read.specs.Grammar.{end_of_entry}
 use Rattle.cd_boc_read.specs.Reading.{numbers_at, stored_bytes, is_completed, is_later, text_of, parts_at, text_at, is_end, texts_at}
 use Rattle.cd_base.specs.Reading.{part_at}
 use Rattle.cd_boc_read.specs.Places.{number_in, stated_shape, stated_cells, stated_total, stated_data, text_len, text_start, stated_start, stated_first, stated_second, held_end, stated_last, stated_ref, stated_entry}
-use Rattle.cd_boc_read.specs.FaultRows.{Holds}
+use Rattle.cd_boc_read.specs.FaultRows.{IsHeaderRight, Holds}
 use Rattle.cd_base.proofs.ReadingLaws.{ok_is, by_ok, by_test}
 use Rattle.cd_boc_read.proofs.PlaceLaws.{Stands, Stands-at, length-standing, part_found}
 use Rattle.cd_boc_read.proofs.FrameFaults.{err_is, by_err, by_fail, not_both, part_fails, numbers_fail, numbers_found}
@@ -56,7 +56,7 @@ number_in-drop : (start place len : ℕ) (bytes : List ℕ) → number_in place 
 unfolding number_in
 number_in-drop start place len bytes = ap (λ (w : List ℕ). from_big (take len w)) (drop-drop place start bytes)
 
-module _ (H : List ℕ → Hash256) (bytes : List ℕ) (counted : length (stated_data bytes) ≡ stated_total bytes) (fit : IsBytes (stated_data bytes)) where
+module _ (H : List ℕ → Hash256) (bytes : List ℕ) (counted : length (stated_data bytes) ≡ stated_total bytes) (fit : IsBytes (stated_data bytes)) (header : IsHeaderRight bytes) where
   abbrev s : Shape
   s = stated_shape bytes
 
@@ -87,7 +87,7 @@ module _ (H : List ℕ → Hash256) (bytes : List ℕ) (counted : length (stated
 
     -- a text that passes the end of the cell data
     too_long : (e : BagFault) (end : ℕ) → fault ≡ e → total < end → end ≤ stated_start bytes (number + 1) → Holds H bytes e
-    too_long e end same short long = subst (Holds H bytes) same (record { stated_is = refl; used_is = refl; wrong = inl (in', omega (arith, short, long)) })
+    too_long e end same short long = subst (Holds H bytes) same (record { before = header; stated_is = refl; used_is = refl; wrong = inl (in', omega (arith, short, long)) })
 
     parts_fail : (rest : List ℕ) (e : BagFault) → Stands cell_data (start + 2) rest → parts_at fault s.size cells number first second rest ≡ Err e → Holds H bytes e
     unfolding parts_at is_completed
@@ -116,7 +116,7 @@ module _ (H : List ℕ → Hash256) (bytes : List ℕ) (counted : length (stated
         ∙ sym (get_or-drop start cell_data (held_end bytes number - 1) 0)
         in
         let small : stated_last bytes number < 256 = subst (λ n. n < 256) (sym (get_or-drop start cell_data (held_end bytes number - 1) 0)) (fit (start + (held_end bytes number - 1))) in
-        subst (Holds H bytes) same (record { number = in'; there = there; cut = w.0; none = no_bit (stated_last bytes number) small (sym (ap (λ n. n % 128) last) ∙ w.1) })) (λ completed k3.
+        subst (Holds H bytes) same (record { before = header; number = in'; there = there; cut = w.0; none = no_bit (stated_last bytes number) small (sym (ap (λ n. n % 128) last) ∙ w.1) })) (λ completed k3.
         by_fail (list_all (is_later cells number) refs.0) (Order number) _ e k3
         (λ wrong same.
         let w = wrong_ref cells number refs.0 wrong in
@@ -126,7 +126,7 @@ module _ (H : List ℕ → Hash256) (bytes : List ℕ) (counted : length (stated
         ∙ ap (λ n. number_in n s.size cell_data) (let same-place : held_at + held_len + w.place * s.size ≡ start + (held_end bytes number + w.place * s.size) = omega arith in same-place)
         ∙ sym (number_in-drop start (held_end bytes number + w.place * s.size) s.size cell_data)
         in
-        subst (Holds H bytes) same (record { number = in'; there = there; place = w.place; counted = named; wrong = subst (λ n. (n ≤ number) ⊎ (cells ≤ n)) ref w.wrong })) (λ later k4.
+        subst (Holds H bytes) same (record { before = header; number = in'; there = there; place = w.place; counted = named; wrong = subst (λ n. (n ≤ number) ⊎ (cells ≤ n)) ref w.wrong })) (λ later k4.
         absurd cc)))))
 
     parts_end : (rest : List ℕ) (x : Text × List ℕ) → Stands cell_data (start + 2) rest → parts_at fault s.size cells number first second rest ≡ Ok x → Stands cell_data (stated_start bytes (number + 1)) x.1
@@ -154,7 +154,7 @@ module _ (H : List ℕ → Hash256) (bytes : List ℕ) (counted : length (stated
         let is-first : a ≡ first = ap (λ (w : List ℕ). get_or w 0 0) at.is in
         let is-second : b ≡ second = ap (λ (w : List ℕ). get_or w 1 0) at.is in
         by_fail (leb (a % 8) 4) (Descriptor number) _ e is
-        (λ many same. subst (Holds H bytes) same (record { number = in'; there = omega (arith, length-standing cell_data start (a ∷ b ∷ more) at, counted); many = subst (λ n. 4 < n % 8) is-first (over_four (a % 8) many) })) (λ few k.
+        (λ many same. subst (Holds H bytes) same (record { before = header; number = in'; there = omega (arith, length-standing cell_data start (a ∷ b ∷ more) at, counted); many = subst (λ n. 4 < n % 8) is-first (over_four (a % 8) many) })) (λ few k.
         parts_fail more e (behind_two a b more at) (sym (ap₂ (λ m n. parts_at fault s.size cells number m n more) is-first is-second) ∙ k))
       where
         over_four : (n : ℕ) → leb n 4 ≡ false → 4 < n
@@ -199,7 +199,7 @@ module _ (H : List ℕ → Hash256) (bytes : List ℕ) (counted : length (stated
         by_fail (eqb (length rest) 0) (Length total (total - length rest) number) _ e is
         (λ left same.
         subst (Holds H bytes) (ap (λ n. Length total n number) (sym used) ∙ same)
-        (record { stated_is = refl; used_is = refl; wrong = inr ((let last : number ≡ cells = omega arith in last), omega (arith, length-standing cell_data (stated_start bytes number) rest at, counted, eqb-false (length rest) 0 left)) })) (λ none k. absurd cc)
+        (record { before = header; stated_is = refl; used_is = refl; wrong = inr ((let last : number ≡ cells = omega arith in last), omega (arith, length-standing cell_data (stated_start bytes number) rest at, counted, eqb-false (length rest) 0 left)) })) (λ none k. absurd cc)
     texts_fail (suc left) number rest e all at is =
         let used = used_here number rest at in
         let in' : number < cells = omega arith in
@@ -212,6 +212,6 @@ module _ (H : List ℕ → Hash256) (bytes : List ℕ) (counted : length (stated
         by_fail (is_end s (index_from index number) (total - length text.1)) (Index number) _ e k0
         (λ wrong same-fault.
         let w = wrong_end number (total - length text.1) in' wrong in
-        subst (Holds H bytes) same-fault (record { number = in'; there = omega (arith, next-at.within, counted); announced = w.0; differ = subst (λ n. end_of_entry s (stated_entry bytes number) ≢ n) end w.1 })) (λ ended k1.
+        subst (Holds H bytes) same-fault (record { before = header; number = in'; there = omega (arith, next-at.within, counted); announced = w.0; differ = subst (λ n. end_of_entry s (stated_entry bytes number) ≢ n) end w.1 })) (λ ended k1.
         by_err (texts_at s cells total left (number + 1) (drop s.off_bytes (index_from index number)) text.1) _ e k1
         (λ wrong. texts_fail left (number + 1) text.1 e (omega arith) next-at (ap (λ (w : List ℕ). texts_at s cells total left (number + 1) w text.1) (sym (index_next index number)) ∙ wrong)) (λ others e2 k2. absurd cc)))

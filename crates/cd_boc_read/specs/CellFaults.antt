@@ -1,5 +1,5 @@
--- Trusted: what is wrong with the cells of a bag, once their texts are read: from the last cell downwards the first fault of
--- each, and then the least hash that two different cells have.
+-- Trusted: what is wrong with the cells of a bag, once their texts are read: from the last cell downwards the first
+-- fault of each, and then the least hash that two different cells have.
 use Rattle.std.specs.Prelude.{ℕ, ◌+◌, Bool, true, not, ◌&&◌, ◌==◌, List, [], ◌∷◌, Option, Some, None, is_some, if◌then◌else◌}
 use Rattle.std.specs.Option.{option_or, option_map}
 use Rattle.std.specs.Str.{bytes_eq}

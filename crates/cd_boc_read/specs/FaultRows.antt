@@ -1,5 +1,5 @@
--- Trusted: what each fault says of the bytes that are no bag, in the order in which faults are told. Fields of the bytes
--- are those of `Places`; the words on cells are those of the grammar.
+-- Trusted: what each fault says of the bytes that are no bag, in the order in which faults are told, and what was right
+-- before it (`before`). Fields of the bytes are those of `Places`; the words on cells are those of the grammar.
 use Rattle.std.specs.Prelude.{◌≡◌, ◌≢◌, ℕ, ◌+◌, ◌/◌, ◌%◌, ◌<◌, ◌≤◌, ◌⊎◌, true, List, length, map, take, drop, slice_index, slice_index_or, Some, IsSome, IsSomeAnd}
 use Rattle.cd_base.specs.Numbers.{from_little}
 use Rattle.cd_base.specs.Checksum.{crc32c}
@@ -16,9 +16,40 @@ use Rattle.cd_boc_write.specs.CellTexts.{Text, entries_of_texts}
 use Rattle.cd_boc_read.specs.declared.bag_fault.BagFault.{BagFault}
 use Rattle.cd_boc_read.specs.declared.bag_fault.BagFault.TheVariants.{Magic, Flags, Sizes, Cut, Roots, Absent, Limit, RootIndex, Extra, Crc, Descriptor, Length, Completion, Order, Index, PrunedHashes, Cell, MaskDiffers, StoredHash, Clash, Memory}
 use Rattle.cd_boc_read.specs.Grammar.{IsBagOf, end_of_entry}
+use Rattle.cd_boc_read.specs.Reading.{are_flags, are_sizes}
 use Rattle.cd_boc_read.specs.Places.{number_in, stated_shape, stated_cells, stated_roots, stated_absent, stated_total, roots_start, stated_root, index_start, stated_entry, data_end, bag_end, stated_start, stated_first, stated_second, stated_last, stated_ref}
 
 module _ (bytes : List ℕ) where
+  -- ---- what is right of the bytes before a fault comes
+
+  abbrev pub IsMagicRight : Type 0
+  IsMagicRight = number_in 0 4 bytes ≡ 0xb5ee9c72
+
+  -- the two zero bits are zero, and cache bits come with an index alone
+  abbrev pub AreFlagsRight : Type 0
+  AreFlagsRight = are_flags (slice_index bytes 4) ≡ true
+
+  -- the magic number, the flags, and the sizes of numbers and offsets
+  pub record IsShapeRight : Type 0 where
+    pub magic : IsMagicRight
+    pub flags : AreFlagsRight
+    pub sizes : are_sizes (slice_index bytes 4 % 8) (slice_index bytes 5) ≡ true
+
+  abbrev pub AreRootsCounted : Type 0
+  AreRootsCounted = (1 ≤ stated_roots bytes) × (stated_roots bytes ≤ stated_cells bytes)
+
+  -- besides, the four numbers
+  pub record AreCountsRight : Type 0 where
+    pub shape : IsShapeRight
+    pub rooted : AreRootsCounted
+    pub none : stated_absent bytes ≡ 0
+    pub few : stated_cells bytes ≤ MOST_CELLS
+
+  -- besides, the roots
+  pub record IsHeaderRight : Type 0 where
+    pub counts : AreCountsRight
+    pub roots : (root : ℕ) → root < stated_roots bytes → stated_root bytes root < stated_cells bytes
+
   -- ---- the frame
 
   -- the first four bytes are another number than b5ee9c72
@@ -29,12 +60,14 @@ module _ (bytes : List ℕ) where
 
   -- of the flag byte a zero bit is set, or cache bits come without an index
   pub record AreWrongFlags (value : ℕ) : Type 0 where
+    pub before : IsMagicRight
     pub there : 6 ≤ length bytes
     pub stated : value ≡ slice_index bytes 4
     pub wrong : (value / 8 % 4 ≢ 0) ⊎ ((value / 32 % 2 ≡ 1) × (value / 128 % 2 ≢ 1))
 
   -- the size of a number isn't 1 to 4, or that of an offset not 1 to 8
   pub record AreWrongSizes (size off_bytes : ℕ) : Type 0 where
+    pub before : IsMagicRight × AreFlagsRight
     pub there : 6 ≤ length bytes
     pub size_is : size ≡ slice_index bytes 4 % 8
     pub off_bytes_is : off_bytes ≡ slice_index bytes 5
@@ -47,6 +80,7 @@ module _ (bytes : List ℕ) where
 
   -- there are no roots, or more than cells
   pub record AreWrongRoots (roots cells : ℕ) : Type 0 where
+    pub before : IsShapeRight
     pub there : roots_start bytes ≤ length bytes
     pub roots_are : roots ≡ stated_roots bytes
     pub cells_are : cells ≡ stated_cells bytes
@@ -54,18 +88,21 @@ module _ (bytes : List ℕ) where
 
   -- some cells are absent
   pub record AreAbsent (absent : ℕ) : Type 0 where
+    pub before : IsShapeRight × AreRootsCounted
     pub there : roots_start bytes ≤ length bytes
     pub stated : absent ≡ stated_absent bytes
     pub some : absent ≢ 0
 
   -- there are more than 1,048,576 cells
   pub record IsOverLimit (cells : ℕ) : Type 0 where
+    pub before : IsShapeRight × AreRootsCounted × (stated_absent bytes ≡ 0)
     pub there : roots_start bytes ≤ length bytes
     pub stated : cells ≡ stated_cells bytes
     pub over : MOST_CELLS < cells
 
   -- this root is the first one that is no cell
   pub record IsRootOfNoCell (root : ℕ) : Type 0 where
+    pub before : AreCountsRight
     pub there : index_start bytes ≤ length bytes
     pub named : root < stated_roots bytes
     pub none : stated_cells bytes ≤ stated_root bytes root
@@ -73,11 +110,13 @@ module _ (bytes : List ℕ) where
 
   -- bytes are left behind the bag
   pub record IsExtra (at : ℕ) : Type 0 where
+    pub before : IsHeaderRight
     pub end : at ≡ bag_end bytes
     pub left : bag_end bytes < length bytes
 
   -- the checksum that is stated isn't that of all bytes before it
   pub record IsWrongChecksum (stated real : ℕ) : Type 0 where
+    pub before : IsHeaderRight
     pub announced : (stated_shape bytes).has_crc ≡ true
     pub whole : bag_end bytes ≡ length bytes
     pub stated_is : stated ≡ from_little (drop (data_end bytes) bytes)
@@ -88,12 +127,14 @@ module _ (bytes : List ℕ) where
 
   -- the cell has more than four references
   pub record IsWrongDescriptor (cell : ℕ) : Type 0 where
+    pub before : IsHeaderRight
     pub number : cell < stated_cells bytes
     pub there : stated_start bytes cell + 2 ≤ stated_total bytes
     pub many : 4 < stated_first bytes cell % 8
 
   -- the text of the cell passes the end of the cell data, or behind that of the last cell bytes are left
   pub record IsWrongLength (stated used cell : ℕ) : Type 0 where
+    pub before : IsHeaderRight
     pub stated_is : stated ≡ stated_total bytes
     pub used_is : used ≡ stated_start bytes cell
     pub wrong :
@@ -102,6 +143,7 @@ module _ (bytes : List ℕ) where
 
   -- the last data byte has no bit before its completion, or no completion
   pub record IsWrongCompletion (cell : ℕ) : Type 0 where
+    pub before : IsHeaderRight
     pub number : cell < stated_cells bytes
     pub there : stated_start bytes (cell + 1) ≤ stated_total bytes
     pub cut : stated_second bytes cell % 2 ≡ 1
@@ -109,6 +151,7 @@ module _ (bytes : List ℕ) where
 
   -- a reference names no cell behind this one
   pub record IsWrongOrder (cell : ℕ) : Type 0 where
+    pub before : IsHeaderRight
     pub number : cell < stated_cells bytes
     pub there : stated_start bytes (cell + 1) ≤ stated_total bytes
     pub place : ℕ
@@ -117,6 +160,7 @@ module _ (bytes : List ℕ) where
 
   -- the entry of the index isn't the end of the cell's text
   pub record IsWrongIndex (cell : ℕ) : Type 0 where
+    pub before : IsHeaderRight
     pub number : cell < stated_cells bytes
     pub there : stated_start bytes (cell + 1) ≤ stated_total bytes
     pub announced : (stated_shape bytes).has_index ≡ true

@@ -1,5 +1,5 @@
--- Trusted: the grammar of bags of cells (TL-B, `serialized_boc`): whole texts, joined from the values of the header and the
--- texts of the cells.
+-- Trusted: the grammar of bags of cells (TL-B, `serialized_boc`): whole texts, joined from the values of the header and
+-- the texts of the cells.
 use Rattle.std.specs.Prelude.{◌≡◌, ℕ, ◌+◌, ◌*◌, ◌/◌, ◌^◌, ◌<◌, ◌≤◌, true, false, List, [], length, map, slice_index, slice_index_or, IfSome, if◌then◌else◌}
 use Rattle.cd_base.specs.declared.hash.Hash256.{Hash256}
 use Rattle.cd_cell.specs.declared.limits.TheConstants.{MOST_BITS, MOST_CELLS}

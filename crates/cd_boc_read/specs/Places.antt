@@ -38,7 +38,8 @@ abbrev pub index_start : List ℕ → ℕ
 index_start bytes = let s = stated_shape bytes in roots_start bytes + stated_roots bytes * s.size
 
 abbrev pub stated_entry : List ℕ → ℕ → ℕ
-stated_entry bytes cell = let s = stated_shape bytes in number_in (index_start bytes + cell * s.off_bytes) s.off_bytes bytes
+stated_entry bytes cell =
+    let s = stated_shape bytes in number_in (index_start bytes + cell * s.off_bytes) s.off_bytes bytes
 
 -- the cell data, and behind them the checksum, if there is one
 abbrev pub data_start : List ℕ → ℕ
@@ -58,12 +59,15 @@ stated_data bytes = take (stated_total bytes) (drop (data_start bytes) bytes)
 -- the bytes of the text of a cell: both descriptors, the stored hashes and depths, the data, and the references
 abbrev pub text_len : ℕ → List ℕ → ℕ
 text_len size text =
-    let first = slice_index text 0 in let second = slice_index text 1 in 2 + stored_bytes first + (second + 1) / 2 + first % 8 * size
+    let first = slice_index text 0 in
+    let second = slice_index text 1 in
+    2 + stored_bytes first + (second + 1) / 2 + first % 8 * size
 
 -- where the text of a cell begins in the cell data: where that of the one before it ends
 unfoldable pub text_start : ℕ → List ℕ → ℕ → ℕ
 text_start size cell_data zero = 0
-text_start size cell_data (suc cell) = let start = text_start size cell_data cell in start + text_len size (drop start cell_data)
+text_start size cell_data (suc cell) =
+    let start = text_start size cell_data cell in start + text_len size (drop start cell_data)
 
 abbrev pub stated_start : List ℕ → ℕ → ℕ
 stated_start bytes cell = text_start (stated_shape bytes).size (stated_data bytes) cell

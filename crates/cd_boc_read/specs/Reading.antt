@@ -1,4 +1,5 @@
--- Trusted: reading a bag from left to right, with the first fault that is met: the frame, and then the texts of the cells.
+-- Trusted: reading a bag from left to right, with the first fault that is met: the frame, and then the texts of the
+-- cells.
 use Rattle.std.specs.Prelude.{ℕ, zero, suc, ◌+◌, ◌-◌, ◌*◌, ◌/◌, ◌%◌, Bool, true, not, ◌&&◌, ◌||◌, ◌==◌, nat_lt, nat_le, List, [], ◌∷◌, length, take, drop, slice_index, Some, None, Result, Ok, Err, if◌then◌else◌}
 use Rattle.std.specs.List.{list_all}
 use Rattle.cd_base.specs.Numbers.{from_big, from_little}
@@ -70,7 +71,8 @@ counts_at cut shape bytes = do
 -- each of the numbers, of which the first stands in this place, names a cell
 unfoldable pub are_cells : ℕ → ℕ → List ℕ → Result (Unit {0}) BagFault
 are_cells cells place [] = Ok tt
-are_cells cells place (number ∷ numbers) = if nat_lt number cells then are_cells cells (place + 1) numbers else Err (RootIndex place)
+are_cells cells place (number ∷ numbers) =
+    if nat_lt number cells then are_cells cells (place + 1) numbers else Err (RootIndex place)
 
 -- the root list
 unfoldable pub roots_at : BagFault → ℕ → Counts → List ℕ → Result (List ℕ × List ℕ) BagFault
@@ -152,7 +154,8 @@ text_at fault size cells number (first ∷ second ∷ bytes) =
 
 -- what the index states first, if there is an index, is this end
 unfoldable pub is_end : Shape → List ℕ → ℕ → Bool
-is_end shape index end = if shape.has_index then end_of_entry shape (from_big (take shape.off_bytes index)) == end else true
+is_end shape index end =
+    if shape.has_index then end_of_entry shape (from_big (take shape.off_bytes index)) == end else true
 
 -- the texts of the cells that are left, which take all that is left of so many bytes
 unfoldable pub texts_at : Shape → ℕ → ℕ → ℕ → ℕ → List ℕ → List ℕ → Result (List Text) BagFault

@@ -29,7 +29,8 @@ abbrev pub text_views : List CellText → List Text
 text_views ts = map text_view ts
 
 abbrev pub parts_view : FrameText → FrameParts
-parts_view f = record { shape = f.shape; cells = f.cells; roots = f.roots.items; index = f.index.now; cell_data = f.cell_data.now }
+parts_view f =
+    record { shape = f.shape; cells = f.cells; roots = f.roots.items; index = f.index.now; cell_data = f.cell_data.now }
 
 abbrev pub bag_view : BagText → Frame × List Text
 bag_view b = (frame_of (parts_view b.frame), text_views b.texts.items)
@@ -40,8 +41,10 @@ roots_unfolded bag = map (unfolding_of (entries_of_texts bag.1)) bag.0.roots
 
 -- the face of a cell, by what all cells show
 abbrev pub face_among : List ChildInfo → CellText → FaceView
-face_among infos t = record { exotic = t.exotic; bits = t.bits; kids = map (λ number. slice_index_or infos number no_info) (refs_view t) }
+face_among infos t =
+    record { exotic = t.exotic; bits = t.bits; kids = map (λ number. slice_index_or infos number no_info) (refs_view t) }
 
 -- what is left behind a front, where the bytes begin with it
 abbrev pub IsBehind : List ℕ → List ℕ → Option (Bor (List ℕ)) → Type 0
-IsBehind bytes front left = MatchOption left ((rest : List ℕ) → bytes ≢ front ++ rest) (λ rest. bytes ≡ front ++ rest.now)
+IsBehind bytes front left =
+    MatchOption left ((rest : List ℕ) → bytes ≢ front ++ rest) (λ rest. bytes ≡ front ++ rest.now)

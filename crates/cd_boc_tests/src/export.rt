@@ -9,7 +9,8 @@ use std::test::Fail;
 // Lists a face under its hash behind the others.
 fn list(cells: &mut Vec<NewCell>, face: Face) -> Result<ChildInfo, Fail>
     ensures count { OnOk result (length cells.new.items ≡ length cells.old.items + 1) }
-    ensures good { All (λ c. IsGoodFace c.face) cells.old.items → OnOk result (All (λ c. IsGoodFace c.face) cells.new.items) }
+    ensures good { All (λ c. IsGoodFace c.face) cells.old.items
+        → OnOk result (All (λ c. IsGoodFace c.face) cells.new.items) }
 {
     face.check()?;
     let info = face_info::<Sha>(&face);

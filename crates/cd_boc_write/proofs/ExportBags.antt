@@ -16,10 +16,10 @@ use Rattle.cd_cell.proofs.Heights.{IsSteady-info_of}
 use Rattle.cd_cell.proofs.Unfoldings.{behind-drop}
 use Rattle.cd_cell.proofs.ExportOrder.{AreDistinct-distinct_cells, Contains-distinct_cells, distinct_cells-one_place, distinct_cells-later, distinct_cells-first}
 use Rattle.cd_boc_write.specs.CellTexts.{Text, entries_of_texts, cell_text, texts_text}
-use Rattle.cd_boc_write.specs.Exports.{width_of, place_of, refs_among, text_of_cell, export_texts, export_frame}
+use Rattle.cd_boc_write.specs.Exports.{width_of, place_among, refs_among, text_of_cell, export_texts, export_frame}
 use Rattle.cd_boc_write.proofs.WidthLaws.{width_of-some, width_of-few, width_of-most, width_of-fits, width_of-room}
 use Rattle.cd_boc_write.proofs.TextLaws.{length-cell_text, length-ends_from, ends_from-within}
-use Rattle.cd_boc_write.proofs.KeyLaws.{place_of-first}
+use Rattle.cd_boc_write.proofs.KeyLaws.{place_among-first}
 
 -- ---- listed cells whose children are listed behind them
 
@@ -34,24 +34,24 @@ module _ (H : List ℕ → Hash256) (cs : List Tree) (one : (i j : ℕ) → i < 
   listed k in' = get_or-map (new_cell_of H) cs k no_tree no_cell in'
 
   -- a listed cell is found at its place
-  place : (j : ℕ) → j < length cs → place_of cells (rep_of H (get_or cs j no_tree)) ≡ j
+  place : (j : ℕ) → j < length cs → place_among cells (rep_of H (get_or cs j no_tree)) ≡ j
   place j in' =
-      place_of-first cells (rep_of H (get_or cs j no_tree)) j (omega (arith, length-map cs (new_cell_of H))) (ap (λ n. n.hash) (listed j in'))
+      place_among-first cells (rep_of H (get_or cs j no_tree)) j (omega (arith, length-map cs (new_cell_of H))) (ap (λ n. n.hash) (listed j in'))
       (λ k below same.
       let in-k : k < length cs = omega arith in
       let rep : rep_of H (get_or cs k no_tree) ≡ rep_of H (get_or cs j no_tree) = sym (ap (λ n. n.hash) (listed k in-k)) ∙ same in
       omega (arith, one k j in-k in' rep))
 
-  place_of-cell : (c : Tree) (j : ℕ) → j < length cs → get_or cs j no_tree ≡ c → place_of cells (rep_of H c) ≡ j
-  place_of-cell c j in' at = ap (λ t. place_of cells (rep_of H t)) (sym at) ∙ place j in'
+  place_among-cell : (c : Tree) (j : ℕ) → j < length cs → get_or cs j no_tree ≡ c → place_among cells (rep_of H c) ≡ j
+  place_among-cell c j in' at = ap (λ t. place_among cells (rep_of H t)) (sym at) ∙ place j in'
 
   -- the children of cell k, looked up behind it
   found : (k : ℕ) (ts : Trees) → ((c : Tree) → Contains (list_of ts) c → (j : ℕ) × (k < j) × (j < length cs) × (get_or cs j no_tree ≡ c)) → trees_of (map (behind k (drop (k + 1) cs) no_tree) (refs_among cells (infos_of H ts))) ≡ ts
   found k no_trees there = refl
   found k (tree_and t ts) there =
       let at = there t (Contains-first t (list_of ts)) in
-      let first : behind k (drop (k + 1) cs) no_tree (place_of cells (rep_of H t)) ≡ t =
-      ap (behind k (drop (k + 1) cs) no_tree) (place_of-cell t at.0 at.2 at.3) ∙ behind-drop k cs no_tree no_tree at.0 at.1 at.2 ∙ at.3
+      let first : behind k (drop (k + 1) cs) no_tree (place_among cells (rep_of H t)) ≡ t =
+      ap (behind k (drop (k + 1) cs) no_tree) (place_among-cell t at.0 at.2 at.3) ∙ behind-drop k cs no_tree no_tree at.0 at.1 at.2 ∙ at.3
       in
       ap₂ tree_and first (found k ts (λ c h. there c (Contains-later t (list_of ts) c h)))
 
@@ -96,24 +96,24 @@ module _ (H : List ℕ → Hash256) (cs : List Tree) (one : (i j : ℕ) → i < 
   unfold_from-listed = unfold-rest (length cs) 0 (add-zero (length cs))
 
   -- each reference names a later cell
-  refs-children : (c : Tree) → refs_among cells (face_of H c).kids ≡ map (λ x. place_of cells (rep_of H x)) (children c)
+  refs-children : (c : Tree) → refs_among cells (face_of H c).kids ≡ map (λ x. place_among cells (rep_of H x)) (children c)
   refs-children c = ap (refs_among cells) (kids-face_of H c) ∙ map-both (children c)
     where
-      map-both : (xs : List Tree) → refs_among cells (map (info_of H) xs) ≡ map (λ x. place_of cells (rep_of H x)) xs
+      map-both : (xs : List Tree) → refs_among cells (map (info_of H) xs) ≡ map (λ x. place_among cells (rep_of H x)) xs
       map-both [] = refl
-      map-both (x ∷ xs) = ap (λ rs. place_of cells (rep_of H x) ∷ rs) (map-both xs)
+      map-both (x ∷ xs) = ap (λ rs. place_among cells (rep_of H x) ∷ rs) (map-both xs)
 
   pub refs-later : (k p : ℕ) (d : Text) → k < length cs → p < length (get_or (export_texts cells) k d).entry.refs → (k < slice_index (get_or (export_texts cells) k d).entry.refs p) × (slice_index (get_or (export_texts cells) k d).entry.refs p < length cs)
   refs-later k p d in' in-refs =
       let c = get_or cs k no_tree in
-      let refs : (get_or (export_texts cells) k d).entry.refs ≡ map (λ x. place_of cells (rep_of H x)) (children c) =
+      let refs : (get_or (export_texts cells) k d).entry.refs ≡ map (λ x. place_among cells (rep_of H x)) (children c) =
       ap (λ t. t.entry.refs) (text-at k d in') ∙ refs-children c
       in
-      let in-children : p < length (children c) = omega (arith, ap length refs, length-map (children c) (λ x. place_of cells (rep_of H x))) in
+      let in-children : p < length (children c) = omega (arith, ap length refs, length-map (children c) (λ x. place_among cells (rep_of H x))) in
       let x = get_or (children c) p no_tree in
       let there = later k x in' (Contains-get_or (children c) p no_tree in-children) in
       let at : slice_index (get_or (export_texts cells) k d).entry.refs p ≡ there.0 =
-      ap (λ rs. slice_index rs p) refs ∙ get_or-map (λ y. place_of cells (rep_of H y)) (children c) p no_tree 0 in-children ∙ place_of-cell x there.0 there.2 there.3
+      ap (λ rs. slice_index rs p) refs ∙ get_or-map (λ y. place_among cells (rep_of H y)) (children c) p no_tree 0 in-children ∙ place_among-cell x there.0 there.2 there.3
       in
       (omega (arith, at, there.1), omega (arith, at, there.2))
 
@@ -178,7 +178,7 @@ module _ (H : List ℕ → Hash256) (t : Tree) (good : IsWellFormed H t) (clear 
   few_refs-bag k d in' =
       let c = get_or all_cells k no_tree in
       let face = IsGoodFace-face_of H c (well_formed-bag k in') in
-      omega (arith, ap (λ x. length x.entry.refs) (text-bag k d in'), length-map (face_of H c).kids (λ kid. place_of bag_cells (rep_of_info kid)), face.kids)
+      omega (arith, ap (λ x. length x.entry.refs) (text-bag k d in'), length-map (face_of H c).kids (λ kid. place_among bag_cells (rep_of_info kid)), face.kids)
 
   pub mask-bag : (k : ℕ) (d : Text) → k < length (distinct_cells H t) → mask_of H (get_or (distinct_cells H t) k no_tree) ≡ (get_or (export_texts (map (new_cell_of H) (distinct_cells H t))) k d).mask
   mask-bag k d in' = ap (λ i. i.mask) (info_of-face_of H (get_or all_cells k no_tree)) ∙ sym (ap (λ x. x.mask) (text-bag k d in'))
@@ -218,7 +218,7 @@ module _ (cells : List NewCell) (few : length cells ≤ 1048576) (good : All (λ
       let face = All-head (λ x. IsGoodFace x.face) c ns all in
       let refs = refs_among cells c.face.kids in
       let narrow : size ≤ 3 = width_of-few (length cells) few in
-      let four : length refs ≤ 4 = omega (arith, face.kids, length-map c.face.kids (λ kid. place_of cells (rep_of_info kid))) in
+      let four : length refs ≤ 4 = omega (arith, face.kids, length-map c.face.kids (λ kid. place_among cells (rep_of_info kid))) in
       omega (arith, length-append (cell_text size (text_of_cell cells c)) (texts_text size (map (text_of_cell cells) ns)), length-cell_text size c.face refs, face.bits, four, mul-le-mul_left (length refs) narrow, texts-low ns (All-tail (λ x. IsGoodFace x.face) c ns all))
 
   data-low : length (export_frame cells).cell_data ≤ 146 * length cells

@@ -20,8 +20,8 @@ unfoldable pub width_of : ℕ → ℕ
 width_of n = unwrap_or (find (λ width. nat_lt n (256 ^ width)) (1 ∷ 2 ∷ 3 ∷ 4 ∷ 5 ∷ 6 ∷ 7 ∷ 8 ∷ [])) 8
 
 -- the first place at which this hash is listed, or 0
-unfoldable pub place_of : List NewCell → Hash256 → ℕ
-place_of cells hash = unwrap_or (position (λ c. same_hash c.hash hash) cells) 0
+unfoldable pub place_among : List NewCell → Hash256 → ℕ
+place_among cells hash = unwrap_or (position (λ c. same_hash c.hash hash) cells) 0
 
 -- the text of a cell whose children have these numbers; nothing is stored
 abbrev pub text_of_face : FaceView → List ℕ → Text
@@ -29,7 +29,7 @@ text_of_face face refs = record { entry = record { exotic = face.exotic; bits = 
 
 -- among listed cells the children are numbered by the places of their representation hashes
 abbrev pub refs_among : List NewCell → List ChildInfo → List ℕ
-refs_among cells kids = map (λ kid. place_of cells (rep_of_info kid)) kids
+refs_among cells kids = map (λ kid. place_among cells (rep_of_info kid)) kids
 
 abbrev pub text_of_cell : List NewCell → NewCell → Text
 text_of_cell cells c = text_of_face c.face (refs_among cells c.face.kids)

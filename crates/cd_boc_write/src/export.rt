@@ -12,9 +12,9 @@ ghost use Rattle.cd_boc_write.specs.Layouts.{data_len};
 ghost use Rattle.cd_boc_write.specs.LayoutOf.{IsLayoutOf};
 
 use crate::cell_text::{put_cell, text_len};
-use crate::key::Key;
 use crate::layout::{Layout, last_end};
 use crate::numbers::width_of;
+use crate::placed_hash::PlacedHash;
 use crate::places::{keys_of, refs_of};
 use crate::write_fault::WriteFault;
 use cd_base::crc32c;
@@ -64,7 +64,7 @@ pub fn write_bag(alloc: Global, cells: &[NewCell]) -> Result<Vec<u8>, WriteFault
 fn put_cells(
     text: &mut Vec<u8>,
     cells: &[NewCell],
-    keys: &[Key],
+    keys: &[PlacedHash],
     size: u8,
 ) -> Result<(), WriteFault>
     requires few { length cells.now ≤ MOST_CELLS }

@@ -3,9 +3,9 @@
 
 mod cell_text;
 mod export;
-mod key;
 mod layout;
 mod numbers;
+mod placed_hash;
 mod places;
 mod shape;
 mod write_fault;

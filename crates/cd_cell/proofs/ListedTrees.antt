@@ -3,6 +3,7 @@ use Rattle.std.proofs.Common.{◌≡◌, ℕ, zero, suc, ◌<◌, ◌≤◌, Lis
 use Rattle.std.specs.List.{list_any}
 use Rattle.std.specs.Option.{unwrap_or}
 use Rattle.std.specs.Ordering.{nat_cmp, ordering_then}
+use Rattle.std.proofs.lemmas.Bool.{or_left, or_right}
 use Rattle.std.proofs.lemmas.Cmp.{tied_itself}
 use Rattle.std.proofs.lemmas.List.{length-map, get_or-map, get_or_default, length-take-le, map-append}
 use Rattle.std.proofs.lemmas.List.Folds.{list_any_at}
@@ -22,14 +23,6 @@ use Rattle.cd_cell.proofs.Subtrees.{Contains-first, Contains-later, Contains-cas
 use Rattle.cd_cell.proofs.Heights.{height_of-child}
 use Rattle.cd_cell.proofs.Distinct.{before-rising, one_place-rising}
 use Rattle.cd_cell.proofs.ExportOrder.{export_cmp-total, export_cmp-higher, same_rep, AreDistinct-distinct_cells, Contains-distinct_cells, distinct_cells-later}
-
-or-left : (a b : Bool) → a ≡ true → (a || b) ≡ true
-or-left true b e = refl
-or-left false b e = absurd (true≢false (sym e))
-
-or-right : (a b : Bool) → b ≡ true → (a || b) ≡ true
-or-right true b e = refl
-or-right false b e = e
 
 Contains-drop : {A : Type 0} (xs : List A) (n : ℕ) (x : A) → Contains (drop n xs) x → Contains xs x
 Contains-drop xs zero x h = h
@@ -58,7 +51,7 @@ module _ (H : List ℕ → Hash256) where
   height_of-face_of : (t : Tree) → height_of_face (face_of H t) ≡ height_of H t
   height_of-face_of t = sym (ap height_of_info (info_of-face_of H t))
 
-  rep_of-face_of : (t : Tree) → rep_of H t ≡ rep_of_face H (face_of H t)
+  pub rep_of-face_of : (t : Tree) → rep_of H t ≡ rep_of_face H (face_of H t)
   rep_of-face_of t = ap rep_of_info (info_of-face_of H t)
 
   -- trees are ordered as the cells that list them
@@ -109,7 +102,7 @@ module _ (H : List ℕ → Hash256) where
         let has_kid : NewCell → Bool = λ n. list_any (same_info (info_of H c)) n.face.kids in
         let kid = has_kid-parent p c child in
         let long : j < length (take k cells) = omega (arith, length-take-le k cells (omega (arith, length-map cs (new_cell_of H)))) in
-        or-right (same_info (info_of H c) top) (list_any has_kid (take k cells)) (list_any_at has_kid (take k cells) j no_cell long (ap has_kid of_p ∙ kid))
+        or_right (same_info (info_of H c) top) (list_any has_kid (take k cells)) (list_any_at has_kid (take k cells) j no_cell long (ap has_kid of_p ∙ kid))
 
     -- the list is valid below a root of mask 0, where each cell is the root or a child of one
     pub IsValid-listed : IsWellFormed H root → mask_of H root ≡ 0 → AllPairs (λ a b. export_cmp H a b ≡ Less) cs → ((a b : Tree) → Contains cs a → Contains cs b → rep_of H a ≡ rep_of H b → a ≡ b) → ((c : Tree) → Contains cs c → (c ≡ root) ⊎ ((p : Tree) × Contains cs p × Contains (children p) c)) → IsValid H (info_of H root) cells
@@ -135,7 +128,7 @@ module _ (H : List ℕ → Hash256) where
               let shows : info_of H c ≡ info_of_new H (listed_at cells k) = info_of-face_of H c ∙ sym (ap (info_of_new H) (listed-at k x)) in
               subst (λ info. is_named H (info_of H root) (take k cells) info ≡ true) shows
               (⊎_elim
-              (λ same. or-left (same_info (info_of H c) (info_of H root)) _ (same_info-true (info_of H c) (info_of H root) (ap (info_of H) same)))
+              (λ same. or_left (same_info (info_of H c) (info_of H root)) _ (same_info-true (info_of H c) (info_of H root) (ap (info_of H) same)))
               (λ parent. named-child up (info_of H root) k parent.0 x parent.1 parent.2)
               (reached c (Contains-get_or cs k no_tree x)));
           plain = plain;

@@ -10,6 +10,7 @@ use Rattle.cd_cell.specs.FaceView.{FaceView}
 use Rattle.cd_cell.specs.CellFaults.{face_fault}
 use Rattle.cd_cell.specs.Fit.{IsFaceFit}
 use Rattle.cd_cell.specs.Tree.{Tree, cell, Trees, no_trees, tree_and, list_of, children, face_of, infos_of, IsWellFormed, AreWellFormed}
+use Rattle.cd_cell.proofs.Subtrees.{length-infos_of}
 use Rattle.cd_cell.proofs.FitLemmas.{face_fault-fit, fit_from_no_fault}
 
 module _ (H : List ℕ → Hash256) where
@@ -17,15 +18,11 @@ module _ (H : List ℕ → Hash256) where
   AreWellFormed_from no_trees all = tt
   AreWellFormed_from (tree_and t ts) all = (all.0, AreWellFormed_from ts all.1)
 
-  length-infos_of : (ts : Trees) → length (infos_of H ts) ≡ length (list_of ts)
-  length-infos_of no_trees = refl
-  length-infos_of (tree_and t ts) = ap suc (length-infos_of ts)
-
   pub IsWellFormed_from_face : (f : FaceView) (t : Tree) → face_of H t ≡ f → length f.bits ≤ 1023 → length f.kids ≤ 4 → face_fault f ≡ None → All (IsWellFormed H) (children t) → IsWellFormed H t
   IsWellFormed_from_face f (cell exotic bits ts) is long few none kids =
       let fit : IsFaceFit (face_of H (cell exotic bits ts)) = subst IsFaceFit (sym is) (fit_from_no_fault f none) in
       let own_bits : length bits ≤ 1023 = omega (arith, long, ap (λ (x : FaceView). length x.bits) is) in
-      let own_kids : length (list_of ts) ≤ 4 = omega (arith, few, ap (λ (x : FaceView). length x.kids) is, length-infos_of ts) in
+      let own_kids : length (list_of ts) ≤ 4 = omega (arith, few, ap (λ (x : FaceView). length x.kids) is, length-infos_of H ts) in
       (own_bits, own_kids, fit, AreWellFormed_from ts (recursion_from_All (IsWellFormed H) (list_of ts) kids))
 
   fit_of_well_formed : (t : Tree) → IsWellFormed H t → IsFaceFit (face_of H t)

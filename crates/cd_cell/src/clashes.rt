@@ -7,8 +7,8 @@ ghost use Rattle.cd_cell.specs.Bags.{face_at};
 ghost use Rattle.cd_cell.specs.Clashes.{clash_among};
 ghost use Rattle.cd_cell.specs.ClashSearch.{AllAgree, IsFirstClash, numbered_from, Agree};
 
-use cd_base::{Hash256, Memory};
 use crate::{ChildInfo, Face};
+use cd_base::{Hash256, Memory};
 use std::alloc::Global;
 
 /// The least representation hash that `infos` give for two different faces. It sorts the hashes, each with its cell's

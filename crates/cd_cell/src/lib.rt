@@ -25,6 +25,7 @@ mod stated;
 
 pub use bag::Bag;
 pub use bits::Bits;
+pub use cd_base::Listed;
 pub use cell_fault::CellFault;
 pub use clashes::least_clash;
 pub use digest::{Hash32, Sha, WeakSum};
@@ -33,7 +34,6 @@ pub use index::Index;
 pub use info::ChildInfo;
 pub use kind::Kind;
 pub use levels::{kind_of, plain_mask};
-pub use cd_base::Listed;
 pub use limits::{GREATEST_DEPTH, MOST_BITS, MOST_CELLS};
 pub use mask::Mask;
 pub use new_cell::NewCell;

@@ -1,6 +1,6 @@
 use cd_base::Hash256;
 use cd_boc_read::read_bag;
-use cd_cell::{Bits, ChildInfo, Face, Mask, Prepared, Sha, WeakSum, face_info};
+use cd_cell::{Bits, ChildInfo, Face, Index, Mask, Prepared, Sha, WeakSum, face_info, least_clash};
 use std::test::Fail;
 
 // The empty cell as a bag.
@@ -57,5 +57,43 @@ fn the_joined_tree_of_two_states(rt: HostRuntime) -> Result<(), Fail> {
     hash[31] = 0xc4;
     assert_eq!(rt; shown.rep(), Hash256(hash));
     assert_eq!(rt; shown.height(), 1);
+    Ok(())
+}
+
+#[test]
+fn an_index_has_the_places_of_its_hashes(rt: HostRuntime) -> Result<(), Fail> {
+    let mut index = Index::new(rt.alloc());
+    for place in 0..3 {
+        let Ok(()) = index.push(Hash256([place; 32]), place as usize) else {
+            return Err(Fail::from("memory"));
+        };
+    }
+    assert_eq!(rt; index.place(&Hash256([2; 32])), Some(2));
+    assert_eq!(rt; index.place(&Hash256([3; 32])), None);
+    Ok(())
+}
+
+#[test]
+fn the_least_hash_of_two_faces(rt: HostRuntime) -> Result<(), Fail> {
+    // The first two have one weak sum.
+    let cells: [&[u8]; 3] = [&[0, 3], &[2, 1], &[0, 3]];
+    let mut faces = Vec::new(rt.alloc());
+    let mut infos = Vec::new(rt.alloc());
+    for bytes in cells {
+        let bits = Bits::from_slice(bytes, 16).ok_or("bits")?;
+        let face = Face::new(false, bits, &[]);
+        let Ok(_) = face.check() else {
+            return Err(Fail::from("a face"));
+        };
+        faces.push(face)?;
+        infos.push(face_info::<WeakSum>(&face))?;
+    }
+    if faces.len() != 3 || infos.len() != 3 {
+        return Err(Fail::from("three faces"));
+    }
+    let two = least_clash(rt.alloc(), &faces, &infos);
+    assert_eq!(rt; two.ok().ok_or("memory")?, Some(infos[0].rep()));
+    let none = least_clash(rt.alloc(), &faces[..1], &infos[..1]);
+    assert_eq!(rt; none.ok().ok_or("memory")?, None);
     Ok(())
 }

@@ -1,5 +1,5 @@
-use cd_cell::{Bits, CellFault, ChildInfo, Face, Hash32, Kind, Mask, Sha, WeakSum, face_info};
 use cd_base::Hash256;
+use cd_cell::{Bits, CellFault, ChildInfo, Face, Hash32, Kind, Mask, Sha, WeakSum, face_info};
 use std::test::Fail;
 
 // A face over at most four children.

@@ -1,5 +1,5 @@
 -- Laws of own cells that are listed: faces without clashes, sorted by what they show.
-use Rattle.std.proofs.Common.{◌≡◌, ℕ, ◌<◌, ◌≤◌, Bool, true, List, length, get_or, map, take, All, Contains, Option, Less, refl, ap, ap₂, sym, ◌∙◌, subst, ⊎_elim, ◌⊎◌, get_or-take, arith}
+use Rattle.std.proofs.Common.{◌≡◌, ℕ, ◌<◌, ◌≤◌, Bool, true, List, length, get_or, map, take, All, Contains, Less, refl, ap, ap₂, sym, ◌∙◌, subst, ⊎_elim, ◌⊎◌, get_or-take, arith}
 use Rattle.std.specs.List.{list_any}
 use Rattle.std.specs.Ordering.{ordering_then}
 use Rattle.std.specs.Cmp.{IsTotalOrder}

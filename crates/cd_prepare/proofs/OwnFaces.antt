@@ -27,7 +27,7 @@ use Rattle.cd_cell.proofs.Heights.{clear-bit}
 use Rattle.cd_cell.proofs.AppliedUpdates.{find-Some}
 use Rattle.cd_cell.specs.Clashes.{clash_of}
 use Rattle.cd_cell.proofs.ClashLaws.{clear-clash_of}
-use Rattle.cd_update.specs.EachOnce.{each_once, first_of}
+use Rattle.cd_update.specs.EachOnce.{first_of}
 use Rattle.cd_update.specs.Places.{Place, places}
 use Rattle.cd_update.specs.Pairing.{IsOldInfo}
 use Rattle.cd_update.specs.Grafts.{known_for, grafted_info, grafted_face, own_face_at, own_faces, foreign_at, foreign_hash}

@@ -46,7 +46,8 @@ impl Reached {
 /// The key of each entry that a root leads to, and of the root itself. The entries are gone over from the root to the
 /// last one, since the children of an entry stand behind it.
 pub fn reach<H: Hash32>(alloc: Global, root: &Start<'_, H>) -> Result<Vec<EntryKey>, AllocError>
-    ensures { IfOk result (λ keys. AreReached H.digest_of root.now.bag.now.cells root.now.bag.now.refs root.now.number keys.items) }
+    ensures { IfOk result (λ keys.
+        AreReached H.digest_of root.now.bag.now.cells root.now.bag.now.refs root.now.number keys.items) }
 {
     let cells = root.bag.cells();
     let refs = root.bag.refs();

@@ -32,7 +32,8 @@ pub fn all_cells<H: Hash32>(
 /// The same of an entry whose cell is hashed already.
 fn cells_below<H: Hash32>(alloc: Global, root: &Start<'_, H>) -> Result<Vec<NewCell>, AllocError>
     ensures cells { IfOk result (λ cells.
-        cells.items ≡ map (new_cell_of H.digest_of) (distinct_cells H.digest_of (bag_tree root.now.bag.now root.now.number))) }
+        cells.items
+        ≡ map (new_cell_of H.digest_of) (distinct_cells H.digest_of (bag_tree root.now.bag.now root.now.number))) }
     ensures few { IfOk result (λ cells. length cells.items ≤ length root.now.bag.now.cells) }
     ensures good { IfOk result (λ cells. All (λ c. IsGoodFace c.face) cells.items) }
 {

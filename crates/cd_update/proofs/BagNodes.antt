@@ -1,11 +1,10 @@
 -- Nodes of a bag: their children stand behind them, and their preorder is that of the places of their cells.
-use Rattle.std.proofs.Common.{◌≡◌, ℕ, zero, suc, ◌+◌, ◌<◌, ◌≤◌, List, [], ◌∷◌, ◌++◌, length, get_or, take, map, flat_map, Contains, Bool, true, false, Option, refl, ap, sym, ◌∙◌, arith, length-take-le, get_or-take}
+use Rattle.std.proofs.Common.{◌≡◌, ℕ, zero, suc, ◌+◌, ◌<◌, ◌≤◌, List, [], ◌∷◌, ◌++◌, length, get_or, take, map, flat_map, Contains, Bool, true, false, Option, refl, ap, sym, ◌∙◌, arith, length-take-le, get_or-take, drop}
 use Rattle.std.specs.Prelude.{if◌then◌else◌}
 use Rattle.std.specs.Bool.{Decides}
 use Rattle.std.specs.Option.{option_or}
 use Rattle.std.proofs.lemmas.List.{map-append, get_or_default}
 use Rattle.cd_base.specs.declared.hash.Hash256.{Hash256}
-use Rattle.cd_cell.specs.FaceView.{FaceView}
 use Rattle.cd_cell.specs.BagView.{BagView}
 use Rattle.cd_cell.specs.Levels.{kid_level}
 use Rattle.cd_cell.specs.Tree.{Tree, cell, Trees, no_trees, tree_and, list_of, children, face_of}
@@ -19,8 +18,9 @@ use Rattle.cd_update.specs.EachOnce.{each_once, first_of, walk_within}
 use Rattle.cd_update.specs.Places.{Place, places, places_of_all}
 use Rattle.cd_update.specs.Nodes.{same_node, node, next_nodes, nodes_from}
 use Rattle.cd_update.specs.Visits.{nodes_of, place_of, visited}
-use Rattle.cd_update.proofs.EachOnceLaws.{flat_map-same, each_once-flat_map, first_of-each_once}
+use Rattle.cd_update.proofs.EachOnceLaws.{flat_map-same, each_once-flat_map, first_of-each_once, each_once-front}
 use Rattle.cd_update.proofs.VisitLaws.{same_node-Decides}
+use Rattle.cd_update.proofs.Walks.{whole-step, below-behind}
 
 pub flat_map-map : {A B C : Type 0} (f : B → List C) (g : A → B) (xs : List A) → flat_map f (map g xs) ≡ flat_map (λ x. f (g x)) xs
 flat_map-map f g [] = refl
@@ -33,6 +33,14 @@ map-flat_map g f (x ∷ xs) = map-append g (f x) (flat_map f xs) ∙ ap (λ zs. 
 first_of-map : {A B C : Type 0} (ask : B → Option C) (g : A → B) (xs : List A) → first_of ask (map g xs) ≡ first_of (λ x. ask (g x)) xs
 first_of-map ask g [] = refl
 first_of-map ask g (x ∷ xs) = ap (option_or (ask (g x))) (first_of-map ask g xs)
+
+some-of : (vs : List Visit) (m : Node) (ms : List Node) → nodes_of vs ≡ m ∷ ms → 0 < length vs
+some-of [] m ms e = absurd (cc e)
+some-of (v ∷ vs) m ms e = omega arith
+
+nodes-behind : (vs : List Visit) (m : Node) (ms : List Node) → nodes_of vs ≡ m ∷ ms → nodes_of (drop 1 vs) ≡ ms
+nodes-behind [] m ms e = absurd (cc e)
+nodes-behind (v ∷ vs) m ms e = cc e
 
 module _ (H : List ℕ → Hash256) where
   pub places_of_all-children : (ts : Trees) (d : ℕ) → places_of_all H ts d ≡ flat_map (λ c. places H c d) (list_of ts)
@@ -113,3 +121,31 @@ module _ (H : List ℕ → Hash256) (bag : BagView) (is_bag : IsBag H bag.cells 
         ∙ first_of-each_once same_node same_node-Decides (λ m. ask (at m)) (nodes_from bag n)
         ∙ sym (first_of-map ask at (nodes_from bag n))
         ∙ ap (first_of ask) (sym (places-nodes n in'))
+
+    -- ---- the places below the first one
+
+    abbrev below : List Node
+    below = flat_map (nodes_from bag) (next_nodes bag n)
+
+    whole-nodes : nodes_from bag n ≡ n ∷ below
+    whole-nodes = whole-step (λ (m : Node). m.entry) (length bag.cells) (next_nodes bag) next-rises n in'
+
+    front-nodes : nodes_of visits ≡ n ∷ each_once same_node below
+    front-nodes =
+        all ∙ ap (each_once same_node) whole-nodes
+        ∙ each_once-front same_node same_node-Decides n below
+        (λ m h same.
+        let behind = below-behind (λ (k : Node). k.entry) (length bag.cells) (next_nodes bag) next-rises n m in' h in
+        let entry : m.entry ≡ n.entry = ap (λ (k : Node). k.entry) same in
+        absurd (omega (arith, behind, entry)))
+
+    pub some-visits : 0 < length visits
+    some-visits = some-of visits n (each_once same_node below) front-nodes
+
+    pub each_once-below : {B : Type 0} (like : B → B → Bool) (tell : (a b : B) → Decides (like a b) (a ≡ b)) (f : Place → List B) → each_once like (flat_map f (visited bag (drop 1 visits))) ≡ each_once like (flat_map f (drop 1 (places H (bag_tree bag n.entry) n.depth)))
+    each_once-below like tell f =
+        let at = place_of bag in
+        ap (each_once like) (flat_map-map f at (nodes_of (drop 1 visits)) ∙ ap (flat_map (λ m. f (at m))) (nodes-behind visits n (each_once same_node below) front-nodes))
+        ∙ each_once-flat_map same_node same_node-Decides like tell (λ m. f (at m)) below
+        ∙ ap (each_once like) (sym (flat_map-map f at below))
+        ∙ ap (λ ps. each_once like (flat_map f (drop 1 ps))) (sym (places-nodes n in' ∙ ap (map at) whole-nodes))

@@ -1,6 +1,6 @@
 -- Laws of lists with each item once.
-use Rattle.std.proofs.Common.{◌≡◌, ℕ, ◌<◌, List, [], ◌∷◌, ◌++◌, ◌≤◌, length, get_or, flat_map, fold, All, Contains, Bool, true, false, true≢false, ◌||◌, Option, Some, None, refl, ap, ap₂, sym, ◌∙◌, subst, inl, inr, ⊎_elim, ◌⊎◌, append_assoc, arith}
-use Rattle.std.specs.Prelude.{if◌then◌else◌}
+use Rattle.std.proofs.Common.{◌≡◌, ℕ, ◌<◌, List, [], ◌∷◌, ◌++◌, ◌≤◌, length, get_or, flat_map, fold, All, Contains, Bool, true, false, true≢false, Option, Some, None, refl, ap, ap₂, sym, ◌∙◌, subst, inl, inr, ⊎_elim, ◌⊎◌, append_assoc, arith}
+use Rattle.std.specs.Prelude.{if◌then◌else◌, ◌||◌}
 use Rattle.std.specs.Bool.{Decides}
 use Rattle.std.specs.List.{list_any}
 use Rattle.std.specs.Option.{option_or}
@@ -79,6 +79,24 @@ module _ {A : Type 0} (same : A → A → Bool) (tells : (a b : A) → Decides (
       go : (b : Bool) → Contains (if b then xs else xs ++ x ∷ []) y → Contains xs y ⊎ (x ≡ y)
       go true h = inl h
       go false h = Contains-push_cases xs x y h
+
+  apart-same : (x y : A) → (y ≡ x → ⊥) → same y x ≡ false
+  apart-same x y differ = ⊎_elim (λ e. absurd (differ ((tells y x).0 e))) (λ e. e) (true_or_false (same y x))
+
+  -- an item that doesn't come again stays in front
+  front-step : (x y : A) (acc : List A) (a b : Bool) → a ≡ false → (if a || b then x ∷ acc else (x ∷ acc) ++ y ∷ []) ≡ x ∷ (if b then acc else acc ++ y ∷ [])
+  front-step x y acc true b e = absurd (true≢false e)
+  front-step x y acc false true e = refl
+  front-step x y acc false false e = refl
+
+  front : (x : A) (acc ys : List A) → ((y : A) → Contains ys y → y ≡ x → ⊥) → fold (with_new same) (x ∷ acc) ys ≡ x ∷ fold (with_new same) acc ys
+  front x acc [] apart = refl
+  front x acc (y ∷ ys) apart =
+      ap (λ zs. fold (with_new same) zs ys) (front-step x y acc (same y x) (list_any (same y) acc) (apart-same x y (apart y (Contains-first y ys))))
+      ∙ front x (with_new same acc y) ys (λ z h. apart z (Contains-later y ys z h))
+
+  pub each_once-front : (x : A) (xs : List A) → ((y : A) → Contains xs y → y ≡ x → ⊥) → each_once same (x ∷ xs) ≡ x ∷ each_once same xs
+  each_once-front x xs apart = front x [] xs apart
 
   pub Contains-added : (xs ys : List A) (y : A) → Contains xs y → Contains (fold (with_new same) xs ys) y
   Contains-added xs [] y h = h

@@ -1,5 +1,5 @@
 -- The visits of a half of an update are its places, each once.
-use Rattle.std.proofs.Common.{◌≡◌, ℕ, ◌<◌, List, length, flat_map, Bool, Option, Some, None, refl, ap, ap₂, sym, ◌∙◌, inl, inr, ◌⊎◌}
+use Rattle.std.proofs.Common.{◌≡◌, ℕ, List, flat_map, Bool, Option, Some, None, refl, ap, ap₂, sym, ◌∙◌, inl, inr, ◌⊎◌, drop, ◌<◌, length}
 use Rattle.std.specs.Bool.{Decides}
 use Rattle.std.specs.Option.{option_or}
 use Rattle.cd_base.specs.declared.hash.Hash256.{Hash256}
@@ -19,11 +19,11 @@ use Rattle.cd_update.specs.declared.pair_fault.PairFault.TheVariants.{OldHash, O
 use Rattle.cd_update.specs.EachOnce.{each_once, first_of}
 use Rattle.cd_update.specs.Places.{Place, places}
 use Rattle.cd_update.specs.Visits.{visited, IsWalked, IsHalf}
-use Rattle.cd_update.specs.Pairing.{beside, wanted_at, misfit_at, misfit_among, first_misfit, wanted_hashes}
+use Rattle.cd_update.specs.Pairing.{beside, wanted_at, misfit_at, misfit_among, first_misfit, wanted_hashes, wanted_hashes_below}
 use Rattle.cd_update.specs.Grafts.{foreign_at, foreign_hash}
 use Rattle.cd_update.specs.Answers.{refusal_of_pairing}
 use Rattle.cd_update.specs.UpdateFaults.{IsUpdateEntry}
-use Rattle.cd_update.proofs.BagNodes.{each_once-visited, first_of-visited}
+use Rattle.cd_update.proofs.BagNodes.{each_once-visited, first_of-visited, each_once-below, some-visits}
 use Rattle.cd_update.proofs.PlaceLaws.{wanted-places}
 
 -- a refusal comes first
@@ -77,6 +77,14 @@ module _ {H : List ℕ → Hash256} {bag : BagView} {start : Visit} {visits : Li
   wanted-half =
       each_once-half walked half same_hash same_hash-Decides (wanted_at H)
       ∙ ap (each_once same_hash) (sym (wanted-places H (half_of u 0) 0))
+
+  pub wanted-below-half : each_once same_hash (flat_map (wanted_at H) (visited bag (drop 1 visits))) ≡ wanted_hashes_below H u
+  wanted-below-half =
+      each_once-below H bag walked.is_bag visits start.node walked.first.entry walked.nodes same_hash same_hash-Decides (wanted_at H)
+      ∙ ap (λ ps. each_once same_hash (flat_map (wanted_at H) (drop 1 ps))) (half-places walked half)
+
+  pub half-visits : 0 < length visits
+  half-visits = some-visits H bag walked.is_bag visits start.node walked.first.entry walked.nodes
 
   pub misfit-half : (faces : List (Option FaceView)) {read : List Visit} → read ≡ visits → misfit_among H (visited bag read) faces ≡ first_misfit H (beside (wanted_hashes H u) faces) (half_of u 0)
   misfit-half faces same =

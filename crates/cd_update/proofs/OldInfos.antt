@@ -1,9 +1,8 @@
 -- What a cell shows up to a level, as a cell without levels above shows it.
-use Rattle.std.proofs.Common.{◌≡◌, ℕ, zero, suc, ◌+◌, ◌<◌, ◌≤◌, ◌/◌, ◌^◌, min, List, [], ◌∷◌, All, nat_eq, ◌||◌, Bool, true, false, Some, None, refl, ap, sym, ◌∙◌, subst, ⊎_elim, mod-eq_of_lt, le_refl, eq-or-lt_of_le, add-one, eqb-true, eq-eqb, arith}
+use Rattle.std.proofs.Common.{◌≡◌, ℕ, ◌+◌, ◌<◌, ◌≤◌, ◌/◌, ◌^◌, min, List, [], ◌∷◌, All, nat_eq, ◌||◌, Bool, true, false, Some, None, refl, ap, sym, ◌∙◌, subst, ⊎_elim, mod-eq_of_lt, le_refl, eqb-true, eq-eqb, arith}
 use Rattle.std.specs.Prelude.{if◌then◌else◌}
 use Rattle.std.specs.List.{list_any}
 use Rattle.std.proofs.lemmas.List.Elements.{All-head, All-tail}
-use Rattle.std.proofs.lemmas.Nat.Bits.{bit_at_above}
 use Rattle.std.proofs.lemmas.Bool.{cases_lt, and_parts, and_from}
 use Rattle.cd_base.specs.declared.hash.Hash256.{Hash256}
 use Rattle.cd_cell.specs.declared.info.ChildInfo.{ChildInfo}
@@ -16,8 +15,8 @@ use Rattle.cd_cell.specs.Levels.{mask_of_face, info_of_face}
 use Rattle.cd_cell.specs.Equality.{same_info, same_info-Decides}
 use Rattle.cd_cell.specs.Updates.{matches, Matches, stands_for}
 use Rattle.cd_cell.proofs.Showing.{matches-Decides}
-use Rattle.cd_cell.proofs.Heights.{clear-bit, IsSteady-info_of}
-use Rattle.cd_cell.proofs.Wanted.{hash-flat}
+use Rattle.cd_cell.proofs.Heights.{IsSteady-info_of}
+use Rattle.cd_cell.proofs.Wanted.{hash-flat, depth-flat}
 use Rattle.cd_cell.proofs.Subtrees.{IsGoodFace-face_of, info_of-face_of}
 use Rattle.cd_cell.proofs.LevelRecursions.{at_levels, depth_of_info}
 use Rattle.cd_cell.proofs.Grafting.{lowest-significant, lowest-lowest}
@@ -36,40 +35,32 @@ mask_small m d top small = at_levels (λ e. lowest_bits m e ≤ 7) (omega arith)
 mask_whole : (m d : ℕ) → d ≤ 3 → lowest_bits m d ≡ lowest_bits (lowest_bits m d) 3
 mask_whole m d top = at_levels (λ e. lowest_bits m e ≡ lowest_bits (lowest_bits m e) 3) (omega arith) (omega arith) (omega arith) (omega arith) d top
 
+-- what is the same at a level as at the one below, is so up to d
+module _ {A : Type 0} (shown of_cell : ℕ → A) (d : ℕ) (are : (l : ℕ) → l ≤ 3 → shown l ≡ of_cell (min d l)) where
+  same_below : (l : ℕ) → l < 3 → (l < d → of_cell (l + 1) ≡ of_cell l) → shown (l + 1) ≡ shown l
+  same_below l below flat =
+      ⊎_elim
+      (λ low.
+      are (l + 1) (omega arith)
+      ∙ ap of_cell (let same : min d (l + 1) ≡ l + 1 = omega arith in same)
+      ∙ flat low
+      ∙ ap of_cell (let same : l ≡ min d l = omega arith in same)
+      ∙ sym (are l (omega arith)))
+      (λ above.
+      are (l + 1) (omega arith)
+      ∙ ap of_cell (let same : min d (l + 1) ≡ min d l = omega arith in same)
+      ∙ sym (are l (omega arith)))
+      (cases_lt l d)
+
 upto-steady : (d : ℕ) (k : ChildInfo) → d ≤ 3 → IsSteady k → IsSteady (upto d k)
 upto-steady d k top steady =
+    let off_before : (l : ℕ) → l < d → is_significant (upto d k).mask (l + 1) ≡ false → is_significant k.mask (l + 1) ≡ false =
+    λ l low off. sym (lowest-significant k.mask (l + 1) d (omega arith) top) ∙ off
+    in
     record {
       small = mask_small k.mask d top steady.small;
-      hashes =
-          λ l below off.
-          ⊎_elim
-          (λ low.
-          let off_before : is_significant k.mask (l + 1) ≡ false = sym (lowest-significant k.mask (l + 1) d (omega arith) top) ∙ off in
-          hash-upto d k (l + 1) (omega arith)
-          ∙ ap (info_hash k) (let same : min d (l + 1) ≡ l + 1 = omega arith in same)
-          ∙ steady.hashes l below off_before
-          ∙ ap (info_hash k) (let same : l ≡ min d l = omega arith in same)
-          ∙ sym (hash-upto d k l (omega arith)))
-          (λ above.
-          hash-upto d k (l + 1) (omega arith)
-          ∙ ap (info_hash k) (let same : min d (l + 1) ≡ min d l = omega arith in same)
-          ∙ sym (hash-upto d k l (omega arith)))
-          (cases_lt l d);
-      depths =
-          λ l below off.
-          ⊎_elim
-          (λ low.
-          let off_before : is_significant k.mask (l + 1) ≡ false = sym (lowest-significant k.mask (l + 1) d (omega arith) top) ∙ off in
-          depth-upto d k (l + 1) (omega arith)
-          ∙ ap (info_depth k) (let same : min d (l + 1) ≡ l + 1 = omega arith in same)
-          ∙ steady.depths l below off_before
-          ∙ ap (info_depth k) (let same : l ≡ min d l = omega arith in same)
-          ∙ sym (depth-upto d k l (omega arith)))
-          (λ above.
-          depth-upto d k (l + 1) (omega arith)
-          ∙ ap (info_depth k) (let same : min d (l + 1) ≡ min d l = omega arith in same)
-          ∙ sym (depth-upto d k l (omega arith)))
-          (cases_lt l d);
+      hashes = λ l below off. same_below (info_hash (upto d k)) (info_hash k) d (hash-upto d k) l below (λ low. steady.hashes l below (off_before l low off));
+      depths = λ l below off. same_below (info_depth (upto d k)) (info_depth k) d (depth-upto d k) l below (λ low. steady.depths l below (off_before l low off));
     }
 
 pub IsOldInfo-upto : (d : ℕ) (k : ChildInfo) → d ≤ 3 → IsSteady k → ((l : ℕ) → l ≤ 3 → info_depth k l ≤ 1024) → IsOldInfo (upto d k)
@@ -96,19 +87,8 @@ whole-info_of H t well =
     let small : mask_of_face (face_of H t) ≤ 7 = omega (arith, (IsSteady-info_of H t well).small, ap (λ k. k.mask) (info_of-face_of H t)) in
     subst (λ k. k ≡ upto 3 k) (sym (info_of-face_of H t)) (whole_face H (face_of H t) small)
 
-depth-flat : (k : ChildInfo) (d l : ℕ) → IsSteady k → k.mask < 2 ^ d → d ≤ l → l ≤ 3 → info_depth k l ≡ info_depth k d
-depth-flat k d zero steady small from low = ap (info_depth k) (let same : 0 ≡ d = omega arith in same)
-depth-flat k d (suc l) steady small from low =
-    ⊎_elim
-    (λ same. ap (info_depth k) (sym same))
-    (λ above.
-    let more : d ≤ l = omega arith in
-    let off = clear-bit k.mask l (omega arith) (bit_at_above k.mask d l small more) in
-    ap (info_depth k) (sym (add-one l)) ∙ steady.depths l (omega arith) off ∙ depth-flat k d l steady small more (omega arith))
-    (eq-or-lt_of_le from)
-
-abbrev told : ℕ → Hash256 → Hash256 → Hash256 → Hash256 → ℕ → ℕ → ℕ → ℕ → ChildInfo
-told m a b c d e f g h = record { mask = m; hashes = a ∷ b ∷ c ∷ d ∷ []; depths = e ∷ f ∷ g ∷ h ∷ [] }
+abbrev info_with : ℕ → Hash256 → Hash256 → Hash256 → Hash256 → ℕ → ℕ → ℕ → ℕ → ChildInfo
+info_with m a b c d e f g h = record { mask = m; hashes = a ∷ b ∷ c ∷ d ∷ []; depths = e ∷ f ∷ g ∷ h ∷ [] }
 
 -- a cell without a level above d shows what a cell that it matches up to d shows up to there
 module _ (k o : ChildInfo) (d : ℕ) (top : d ≤ 3) (whole : k ≡ upto 3 k) (steady : IsSteady k) (small : k.mask < 2 ^ d) (same : Matches d k o) where
@@ -139,7 +119,7 @@ module _ (k o : ChildInfo) (d : ℕ) (top : d ≤ 3) (whole : k ≡ upto 3 k) (s
       let d3 = same_depths 3 (omega arith) in
       whole ∙ joined mask h0 h1 h2 h3 d0 d1 d2 d3
     where
-      joined : {m n : ℕ} {a b p q r s u v : Hash256} {e f g h i j x y : ℕ} → m ≡ n → a ≡ b → p ≡ q → r ≡ s → u ≡ v → e ≡ f → g ≡ h → i ≡ j → x ≡ y → told m a p r u e g i x ≡ told n b q s v f h j y
+      joined : {m n : ℕ} {a b p q r s u v : Hash256} {e f g h i j x y : ℕ} → m ≡ n → a ≡ b → p ≡ q → r ≡ s → u ≡ v → e ≡ f → g ≡ h → i ≡ j → x ≡ y → info_with m a p r u e g i x ≡ info_with n b q s v f h j y
       joined em ea ep er eu ee eg ei ex = cc
 
 -- ---- the one known info that stands for a hidden cell

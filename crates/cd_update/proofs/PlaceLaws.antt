@@ -4,7 +4,6 @@ use Rattle.std.specs.Prelude.{if◌then◌else◌}
 use Rattle.std.specs.Option.{option_or, option_to_list}
 use Rattle.std.proofs.lemmas.List.{map-append, append-nil, take_more, take-append-drop}
 use Rattle.cd_base.specs.declared.hash.Hash256.{Hash256}
-use Rattle.cd_cell.specs.FaceView.{FaceView}
 use Rattle.cd_cell.specs.BagView.{BagView}
 use Rattle.cd_cell.specs.Levels.{kid_level}
 use Rattle.cd_cell.specs.Tree.{Tree, cell, Trees, no_trees, tree_and, face_of, hash_at}

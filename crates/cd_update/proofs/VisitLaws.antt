@@ -1,28 +1,16 @@
 -- Laws of visits and their numbers.
-use Rattle.std.proofs.Common.{◌≡◌, ◌≢◌, ℕ, ◌<◌, ◌≤◌, List, [], ◌∷◌, ◌++◌, length, get_or, set, Contains, Bool, true, false, true≢false, Option, Some, None, refl, ap, ap₂, sym, ◌∙◌, subst, ⊎_elim, get_or-set_same, get_or-set_other, arith}
-use Rattle.std.specs.Prelude.{if◌then◌else◌, is_some, MatchOption}
+use Rattle.std.proofs.Common.{◌≡◌, ◌≢◌, ℕ, ◌<◌, ◌≤◌, List, [], ◌∷◌, ◌++◌, length, get_or, set, Contains, false, true≢false, Option, Some, None, refl, ap, ap₂, sym, ◌∙◌, subst, ⊎_elim, get_or-set_same, get_or-set_other, arith}
+use Rattle.std.specs.Prelude.{is_some, MatchOption}
 use Rattle.std.specs.Bool.{Decides}
 use Rattle.std.specs.List.{list_any}
-use Rattle.std.specs.Ordering.{is_eq}
-use Rattle.std.specs.BTreeMap.{get}
-use Rattle.std.specs.declared.cmp.Ordering.{Ordering}
-use Rattle.std.specs.declared.cmp.Ordering.TheVariants.{Less, Equal, Greater}
-use Rattle.std.specs.Cmp.{tied_itself}
 use Rattle.std.proofs.lemmas.Bool.{and_parts, and_from, cases_lt, cases_eq}
 use Rattle.std.proofs.lemmas.Bool.Decides.{Decides-eqb}
 use Rattle.std.proofs.lemmas.List.{length-map, get_or-map, get_or_push, get_or_append_left, length_push}
-use Rattle.std.proofs.lemmas.List.Elements.{Contains-push_cases, Contains-get_or}
-use Rattle.cd_base.specs.declared.hash.Hash256.{Hash256}
-use Rattle.cd_cell.specs.Infos.{no_hash}
-use Rattle.cd_cell.specs.Equality.{same_hash, same_hash-Decides}
-use Rattle.cd_cell.specs.Export.{hash_cmp}
-use Rattle.cd_cell.proofs.ExportOrder.{hash_cmp-ties, hash_cmp-total}
+use Rattle.std.proofs.lemmas.List.Elements.{Contains-get_or}
 use Rattle.cd_update.specs.declared.visit.Node.{Node}
 use Rattle.cd_update.specs.declared.visit.Visit.{Visit}
-use Rattle.cd_cell.specs.declared.index.Index.{Index}
 use Rattle.cd_update.specs.Nodes.{same_node}
 use Rattle.cd_update.specs.Visits.{spot, nodes_of, no_visit, visit_at, IsNumbered}
-use Rattle.cd_cell.specs.Indexes.{IsIndex}
 use Rattle.cd_cell.proofs.ListTests.{contains-any, any-contains, true_or_false}
 
 pub same_node-Decides : (a b : Node) → Decides (same_node a b) (a ≡ b)

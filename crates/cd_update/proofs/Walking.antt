@@ -5,7 +5,6 @@ use Rattle.std.specs.List.{list_any}
 use Rattle.std.proofs.lemmas.List.{map-append, append-nil, reverse-append, reverse-reverse, get_or_append_left, length_push, drop_more}
 use Rattle.std.proofs.lemmas.List.Elements.{All-nil, All-cons, All-push, All-contains, Contains-push}
 use Rattle.cd_base.specs.declared.hash.Hash256.{Hash256}
-use Rattle.cd_cell.specs.FaceView.{FaceView}
 use Rattle.cd_cell.specs.BagView.{BagView}
 use Rattle.cd_cell.specs.Levels.{kid_level, info_of_face}
 use Rattle.cd_cell.specs.Updates.{is_hidden}
@@ -122,9 +121,6 @@ pushed-more initial before v children depth left next in' step here there =
 
 pub next_nodes-shown : (bag : BagView) (n : Node) → is_hidden n.depth (face_at bag.cells n.entry) ≡ false → next_nodes bag n ≡ map (node (kid_level (face_at bag.cells n.entry) n.depth)) (take (length (face_at bag.cells n.entry).kids) (get_or bag.refs n.entry []))
 next_nodes-shown bag n e = ap (λ b. if b then [] else map (node (kid_level (face_at bag.cells n.entry) n.depth)) (take (length (face_at bag.cells n.entry).kids) (get_or bag.refs n.entry []))) e
-
-pub next_nodes-hidden : (bag : BagView) (n : Node) → is_hidden n.depth (face_at bag.cells n.entry) ≡ true → next_nodes bag n ≡ []
-next_nodes-hidden bag n e = ap (λ b. if b then [] else map (node (kid_level (face_at bag.cells n.entry) n.depth)) (take (length (face_at bag.cells n.entry).kids) (get_or bag.refs n.entry []))) e
 
 pub IsShown-child : (H : List ℕ → Hash256) (bag : BagView) (is_bag : IsBag H bag.cells bag.refs bag.roots) (k p depth child : ℕ) → k < length bag.cells → p < length (face_at bag.cells k).kids → depth ≤ 3 → child ≡ get_or (take (length (face_at bag.cells k).kids) (get_or bag.refs k [])) p 0 → IsShown H bag (record { node = node depth child; parent = k; place = p })
 IsShown-child H bag is_bag k p depth child in' in-kids low e =

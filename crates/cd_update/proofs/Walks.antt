@@ -1,5 +1,5 @@
 -- A walk with a stack that passes over what was visited gives the preorder, each item at its first place.
-use Rattle.std.proofs.Common.{◌≡◌, ℕ, zero, suc, ◌+◌, ◌<◌, ◌≤◌, List, [], ◌∷◌, ◌++◌, length, flat_map, fold, Contains, Bool, refl, ap, sym, ◌∙◌, subst, ⊎_elim, append_assoc, arith, false}
+use Rattle.std.proofs.Common.{◌≡◌, ℕ, zero, suc, ◌+◌, ◌<◌, ◌≤◌, List, [], ◌∷◌, ◌++◌, length, flat_map, fold, Contains, Bool, refl, ap, sym, ◌∙◌, subst, ⊎_elim, append_assoc, le_refl, arith, false}
 use Rattle.std.specs.Bool.{Decides}
 use Rattle.std.specs.List.{list_any}
 use Rattle.std.proofs.lemmas.List.{append-nil, length-append}
@@ -66,19 +66,25 @@ module _ {A : Type 0} (rank : A → ℕ) (bound : ℕ) (next : A → List A) whe
     pub whole-below : (a m p : A) → rank a < bound → Contains (whole a) m → Contains (whole m) p → Contains (whole a) p
     whole-below a m p low h k = below-at bound a m p (omega arith) low h k
 
-    low-at : (k : ℕ) (a m : A) → bound ≤ k + rank a → rank a < bound → Contains (whole a) m → rank m < bound
-    low-at zero a m fuel low h = absurd (omega arith)
-    low-at (suc n) a m fuel low h =
+    above-at : (k : ℕ) (a m : A) → bound ≤ k + rank a → rank a < bound → Contains (whole a) m → rank a ≤ rank m
+    above-at zero a m fuel low h = absurd (omega arith)
+    above-at (suc n) a m fuel low h =
         ⊎_elim
-        (λ same. subst (λ x. rank x < bound) same low)
+        (λ same. subst (λ x. rank a ≤ rank x) same (le_refl (rank a)))
         (λ later.
         let found = Contains-flat_map_cases whole (next a) m later in
         let up = rises a found.0 low found.1 in
-        low-at n found.0 m (omega (arith, up.0)) up.1 found.2)
+        let rest = above-at n found.0 m (omega (arith, up.0)) up.1 found.2 in
+        omega (arith, up.0, rest))
         (Contains-cases a (flat_map whole (next a)) m (subst (λ xs. Contains xs m) (whole-step a low) h))
 
-    pub whole-low : (a m : A) → rank a < bound → Contains (whole a) m → rank m < bound
-    whole-low a m low h = low-at bound a m (omega arith) low h
+    -- what is below an item comes behind it
+    pub below-behind : (a m : A) → rank a < bound → Contains (flat_map whole (next a)) m → rank a < rank m
+    below-behind a m low h =
+        let found = Contains-flat_map_cases whole (next a) m h in
+        let up = rises a found.0 low found.1 in
+        let rest = above-at bound found.0 m (omega arith) up.1 found.2 in
+        omega (arith, up.0, rest)
 
     abbrev Within : List A → List A → Type 0
     Within xs ys = (x : A) → Contains xs x → Contains ys x

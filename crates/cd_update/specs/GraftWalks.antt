@@ -1,5 +1,5 @@
 -- Inner: what a graft works on, in words over the whole of it.
-use Rattle.std.specs.Prelude.{◌≡◌, ℕ, ◌+◌, List, false, length}
+use Rattle.std.specs.Prelude.{◌≡◌, ℕ, ◌+◌, List, false}
 use Rattle.cd_base.specs.declared.hash.Hash256.{Hash256}
 use Rattle.cd_cell.specs.declared.digest.Hash32.{Ghosts}
 use Rattle.cd_cell.specs.declared.info.ChildInfo.{ChildInfo}
@@ -11,7 +11,7 @@ use Rattle.cd_update.specs.declared.visit.Node.{Node}
 use Rattle.cd_update.specs.declared.visit.Visit.{Visit}
 use Rattle.cd_update.specs.declared.grafting.HalfGraft.{HalfGraft}
 use Rattle.cd_update.specs.Places.{Place}
-use Rattle.cd_update.specs.Visits.{spot, nodes_of, visited}
+use Rattle.cd_update.specs.Visits.{spot, visited}
 use Rattle.cd_update.specs.Grafts.{grafted_info, grafted_face, own_faces_at}
 use Rattle.cd_update.specs.EachOnce.{each_once}
 use Rattle.cd_cell.specs.Equality.{same_face}

@@ -1,5 +1,5 @@
 -- Trusted: an old half beside the faces that were found for its wanted hashes.
-use Rattle.std.specs.Prelude.{◌≡◌, ℕ, min, ◌≤◌, ◌==◌, if◌then◌else◌, List, [], ◌∷◌, Contains, Option, Some, None}
+use Rattle.std.specs.Prelude.{◌≡◌, ℕ, min, ◌≤◌, ◌==◌, if◌then◌else◌, List, [], ◌∷◌, Contains, Option, Some, None, drop}
 use Rattle.std.specs.List.{flat_map}
 use Rattle.std.specs.Option.{option_or, option_map, option_to_list}
 use Rattle.cd_base.specs.declared.hash.Hash256.{Hash256}
@@ -85,6 +85,10 @@ module _ (H : List ℕ → Hash256) where
   -- the hashes of the cells that an update shows of the old tree, each once
   abbrev pub wanted_hashes : Tree → List Hash256
   wanted_hashes u = each_once same_hash (wanted H (half_of u 0) 0)
+
+  -- the same of the cells below the old half's root
+  abbrev pub wanted_hashes_below : Tree → List Hash256
+  wanted_hashes_below u = each_once same_hash (flat_map wanted_at (drop 1 (places H (half_of u 0) 0)))
 
   -- why an update isn't paired with an old root and the faces beside its wanted hashes
   abbrev pub pair_refusal : Tree → ChildInfo → List (Option FaceView) → Option UpdateRefusal

@@ -78,7 +78,8 @@ fn check_visits<H: Hash32>(
     faces: &[Option<Face>],
 ) -> Result<(), PairFault>
     requires { All (IsShown H.digest_of bag.now) visits.now }
-    ensures { PairAnswers (option_map old_half (misfit_among H.digest_of (visited bag.now visits.now) faces.now)) result }
+    ensures { PairAnswers
+        (option_map old_half (misfit_among H.digest_of (visited bag.now visits.now) faces.now)) result }
 {
     let mut hashes = Hashes::new(alloc);
     for visit in visits {

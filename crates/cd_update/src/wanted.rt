@@ -1,10 +1,10 @@
-ghost use Rattle.std.specs.Prelude.{◌≡◌, All, IfOk};
+ghost use Rattle.std.specs.Prelude.{◌≡◌, ◌<◌, All, drop, length, IfOk};
 ghost use Rattle.std.specs.List.{flat_map};
 ghost use Rattle.cd_cell.specs.Equality.{same_hash};
 ghost use Rattle.cd_update.specs.EachOnce.{each_once};
 ghost use Rattle.cd_update.specs.Nodes.{IsShown};
 ghost use Rattle.cd_update.specs.Visits.{place_of, visited};
-ghost use Rattle.cd_update.specs.Pairing.{visible_hash, wanted_at, wanted_hashes};
+ghost use Rattle.cd_update.specs.Pairing.{visible_hash, wanted_at, wanted_hashes, wanted_hashes_below};
 
 use crate::hashes::Hashes;
 use crate::hidden::{is_hidden, shown_info};
@@ -54,4 +54,22 @@ impl<H: Hash32> Update<'_, H> {
         let hashes = hashes_of(alloc, half.bag, half.visits())?;
         Ok(hashes.all)
     }
+
+    /// The hashes of the cells that the old half shows below its root, in preorder, each once. Over the joined tree
+    /// of two states no store has the root.
+    pub fn wanted_below(&self, alloc: Global) -> Result<Vec<Hash256>, Memory>
+        ensures { IfOk result (λ hashes. hashes.items ≡ wanted_hashes_below H.digest_of (tree_of self.now)) }
+    {
+        let half = self.walk(alloc, 0)?;
+        let hashes = hashes_of(alloc, half.bag, behind_first(half.visits()))?;
+        Ok(hashes.all)
+    }
+}
+
+/// All visits but the first one.
+fn behind_first(visits: &[Visit]) -> &[Visit]
+    requires { 0 < length visits.now }
+    ensures { result.now ≡ drop 1 visits.now }
+{
+    &visits[1..]
 }

@@ -181,12 +181,14 @@ fn found_of(alloc: Global, shapes: &[Option<Shape>]) -> Result<Vec<Option<Face>>
 
 // ---- updates that are prepared
 
-// An update, by the cells of its bag, over an old root and the faces beside its wanted hashes, and what it brings.
+// An update, by the cells of its bag, over an old root and the faces beside its wanted hashes, and what it brings: the
+// wanted hashes, those below the old half's root, what is known, the new root, the own cells and the listed ones.
 struct Row {
     cells: &'static [Cell],
     old: Shown,
     faces: &'static [Option<Shape>],
     wanted: &'static [u8],
+    below: &'static [u8],
     known: &'static [Shown],
     root: Shown,
     own: &'static [Shape],
@@ -208,6 +210,7 @@ const ROWS: [Row; 6] = [
         old: Shown::Whole(3, 0),
         faces: &[],
         wanted: &[],
+        below: &[],
         known: &[Shown::Whole(3, 0)],
         root: Shown::Whole(3, 0),
         own: &[],
@@ -221,6 +224,7 @@ const ROWS: [Row; 6] = [
         old: Shown::Whole(3, 0),
         faces: &[],
         wanted: &[],
+        below: &[],
         known: &[Shown::Whole(3, 0)],
         root: Shown::Whole(3, 0),
         own: &[],
@@ -236,6 +240,7 @@ const ROWS: [Row; 6] = [
         old: Shown::Whole(3, 0),
         faces: &[],
         wanted: &[],
+        below: &[],
         known: &[Shown::Whole(3, 0)],
         root: Shown::Whole(0x12, 0),
         own: &[NEW_LEAF],
@@ -251,6 +256,7 @@ const ROWS: [Row; 6] = [
         old: Shown::Whole(3, 0),
         faces: &[Some(Shape(false, Stem::Bytes(&[1]), 8, &[]))],
         wanted: &[3],
+        below: &[],
         known: &[Shown::Whole(3, 0)],
         root: Shown::Whole(0x12, 0),
         own: &[NEW_LEAF],
@@ -272,6 +278,7 @@ const ROWS: [Row; 6] = [
             Some(OLD_PROOF),
         ],
         wanted: &[170, 150],
+        below: &[150],
         known: &[
             Shown::Whole(170, 2),
             Shown::Whole(150, 1),
@@ -296,6 +303,7 @@ const ROWS: [Row; 6] = [
         old: Shown::Whole(3, 0),
         faces: &[],
         wanted: &[],
+        below: &[],
         known: &[Shown::Whole(3, 0)],
         root: Shown::Whole(231, 2),
         own: &[
@@ -315,6 +323,7 @@ fn check_layers(
     faces: &[Option<Face>],
 ) -> Result<(), Fail> {
     assert!(rt; update.wanted(alloc)? == hashes_of(alloc, row.wanted)?);
+    assert!(rt; update.wanted_below(alloc)? == hashes_of(alloc, row.below)?);
     let known = pair_old(alloc, update, &info_of(row.old), faces)?;
     assert!(rt; known.infos.as_slice() == infos_of(alloc, row.known)?.as_slice());
     let new = graft(alloc, update, &known)?;

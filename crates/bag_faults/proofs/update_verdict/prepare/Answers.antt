@@ -1,6 +1,7 @@
 -- The faces beside the wanted hashes are those of the state, so the answer is that of its tree.
-use Rattle.std.proofs.Common.{map, ap, ◌∙◌}
+use Rattle.std.proofs.Common.{map, ap, sym, subst, ◌∙◌}
 use Rattle.std.proofs.lemmas.Result.{IfOk-weaker}
+use Rattle.cd_update.specs.Pairing.{AreOf}
 use Rattle.cd_update.specs.UpdateTrees.{tree_of}
 use Rattle.bag_faults.specs.OldStates.{face_in, state_of}
 use Rattle.bag_faults.proofs.OldStateLaws.{AreOf-state}
@@ -13,8 +14,9 @@ returns-in-Ok g c =
     let update = c.args.update.now in
     let u = tree_of update in
     let t = state_of H state.whole in
-    let are = AreOf-state H state.whole state.is_state c.root.ensures.kept.plain u c.deref.result.now
+    let own = AreOf-state H state.whole state.is_state c.root.ensures.kept.plain u c.deref.result.now
     (c.deref.ensures.value ∙ c.in-Ok.ensures ∙ ap (map (face_in state.whole.cells)) c.requires) in
+    let are : AreOf H t u c.root.result.now c.deref.result.now = subst (λ root. AreOf H t u root c.deref.result.now) (sym c.root.ensures.value) own in
     record {
       exact = c.prepare_update.ensures.exact t are;
       applied = IfOk-weaker c.prepare_update.result _ _ (λ value each. each t are) c.prepare_update.ensures.applied;

@@ -4,7 +4,7 @@ use Rattle.cd_cell.specs.declared.new_cell.NewCell.{NewCell}
 use Rattle.cd_cell.specs.Infos.{rep_of_info}
 use Rattle.cd_cell.specs.BitText.{byte_count}
 use Rattle.cd_boc_write.specs.CellTexts.{texts_text, ends_from, cell_text}
-use Rattle.cd_boc_write.specs.Exports.{place_of, text_of_cell}
+use Rattle.cd_boc_write.specs.Exports.{place_among, text_of_cell}
 use Rattle.cd_boc_write.specs.Layouts.{data_len}
 use Rattle.cd_boc_write.proofs.TextLaws.{length-cell_text, ends_from-push, length-texts_push, data_len-ends_from}
 use Rattle.cd_boc_write.proofs.export.ends_of.Invariants.{AreEnds}
@@ -26,8 +26,8 @@ more cells size ends end i added c d before in' at text few =
 -- the length of a listed cell's text
 text_of : (cells : List NewCell) (size : ℕ) (c : NewCell) → 2 + byte_count (length c.face.bits) + size * length c.face.kids ≡ length (cell_text size (text_of_cell cells c))
 text_of cells size c =
-    let refs = map (λ kid. place_of cells (rep_of_info kid)) c.face.kids in
-    ap (λ n. 2 + byte_count (length c.face.bits) + size * n) (sym (length-map c.face.kids (λ kid. place_of cells (rep_of_info kid))))
+    let refs = map (λ kid. place_among cells (rep_of_info kid)) c.face.kids in
+    ap (λ n. 2 + byte_count (length c.face.bits) + size * n) (sym (length-map c.face.kids (λ kid. place_among cells (rep_of_info kid))))
     ∙ sym (length-cell_text size c.face refs)
 
 pub loop-cell-init : goal.loop-cell-init

@@ -3,7 +3,7 @@ use Rattle.std.proofs.lemmas.List.{map_more}
 use Rattle.std.proofs.lemmas.List.Elements.{All-weaker, All-same}
 use Rattle.cd_cell.specs.declared.info.ChildInfo.{ChildInfo}
 use Rattle.cd_cell.specs.declared.new_cell.NewCell.{NewCell}
-use Rattle.cd_boc_write.specs.declared.key.Key.{Key}
+use Rattle.cd_boc_write.specs.declared.placed_hash.PlacedHash.{PlacedHash}
 use Rattle.cd_boc_write.specs.CellTexts.{cell_text, texts_text}
 use Rattle.cd_boc_write.specs.Exports.{width_of, refs_among, text_of_face, text_of_cell}
 use Rattle.cd_boc_write.specs.Keys.{AreKeysOf}
@@ -13,7 +13,7 @@ use Rattle.cd_boc_write.proofs.KeyLaws.{refs_among-below}
 use Rattle.cd_boc_write.proofs.export.put_cells.Goals as goal
 
 -- the numbers that were looked up
-refs_are : (cells : List NewCell) (keys : List Key) (shown kids : List ChildInfo) (count : ℕ) (refs : List ℕ) → shown ≡ kids → count ≡ length kids → ((cells : List NewCell) → AreKeysOf cells keys → take (length shown) refs ≡ refs_among cells shown) → AreKeysOf cells keys → take count refs ≡ refs_among cells kids
+refs_are : (cells : List NewCell) (keys : List PlacedHash) (shown kids : List ChildInfo) (count : ℕ) (refs : List ℕ) → shown ≡ kids → count ≡ length kids → ((cells : List NewCell) → AreKeysOf cells keys → take (length shown) refs ≡ refs_among cells shown) → AreKeysOf cells keys → take count refs ≡ refs_among cells kids
 refs_are cells keys shown kids count refs same counted found are =
     ap (λ n. take n refs) (counted ∙ ap length (sym same)) ∙ found cells are ∙ ap (refs_among cells) same
 

@@ -5,7 +5,7 @@ use Rattle.cd_cell.specs.Equality.{same_info, same_info-Decides}
 use Rattle.cd_cell.specs.Updates.{old_half}
 use Rattle.cd_update.specs.EachOnce.{each_once}
 use Rattle.cd_update.specs.Visits.{visited}
-use Rattle.cd_update.specs.Pairing.{beside, misfit_among, known_at, first_misfit, wanted_hashes, half_root_refusal, pair_refusal, tree_refusal}
+use Rattle.cd_update.specs.Pairing.{beside, known_at, first_misfit, wanted_hashes, half_root_refusal, pair_refusal, tree_refusal}
 use Rattle.cd_update.specs.UpdateTrees.{tree_of, old_half_of}
 use Rattle.cd_update.proofs.OldTrees.{refusal-half, refusal-tree, known-tree}
 use Rattle.cd_update.proofs.HalfVisits.{or-refused, refused-later, refused-as, update-tree, each_once-half, misfit-half}

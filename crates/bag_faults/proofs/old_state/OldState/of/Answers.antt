@@ -14,5 +14,5 @@ invariant_of-result g c =
     let one = state-of H (bag_trees bag) c.in-Ok.ensures.exact in
     record {
       is_state = IsState-whole H bag.cells bag.refs bag.roots c.cells-2.ensures.kept one.0 one.1 whole (c.in-Ok.ensures.whole one.0 one.1);
-      indexed = subst (IsIndexed c.in-Ok-places_of.places) c.cells.ensures.value c.in_ok-places.ensures;
+      indexed = subst (IsIndexed c.in-Ok-places_of.places) c.cells.ensures.value c.in-Ok-places_of.ensures;
     }

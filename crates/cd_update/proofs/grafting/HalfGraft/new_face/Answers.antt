@@ -1,5 +1,5 @@
 -- The children of a visible visit were visited, and worked out before it.
-use Rattle.std.proofs.Common.{ℕ, ◌≤◌, ◌+◌, ◌∷◌, ◌++◌, [], List, length, get_or, take, map, sym, ap, ap₂, ◌∙◌, arith}
+use Rattle.std.proofs.Common.{ℕ, ◌≤◌, ◌+◌, ◌∷◌, ◌++◌, [], List, length, take, map, sym, ap, ap₂, ◌∙◌, arith}
 use Rattle.std.proofs.lemmas.List.{map_more, take_all, length-map, length-take-le}
 use Rattle.cd_cell.specs.declared.info.ChildInfo.{ChildInfo}
 use Rattle.cd_cell.specs.FaceView.{FaceView}

@@ -2,7 +2,7 @@
 use Rattle.std.proofs.Common.{◌≡◌, ◌<◌, ◌-◌, ◌+◌, length, get_or, None, Some, sym, ap, subst, ◌∙◌, arith}
 use Rattle.std.proofs.lemmas.List.{get_or_default}
 use Rattle.cd_update.specs.Visits.{spot, visit_at, no_visit}
-use Rattle.cd_update.specs.GraftWalks.{visits_of, new_info_at, AreDone}
+use Rattle.cd_update.specs.GraftWalks.{new_info_at, AreDone}
 use Rattle.cd_update.proofs.GraftVisits.{grafted-start, grafted-skip, grafted-more}
 use Rattle.cd_update.proofs.grafting.HalfGraft.new_infos.Goals as goal
 

@@ -2,7 +2,7 @@ use cd_base::Hash256;
 
 /// The hash and the place of a listed cell. Keys are ordered by hash, and those of one hash by place.
 #[derive(Clone, Copy, PartialEq, Eq, PartialOrd, Ord)]
-pub struct Key {
+pub struct PlacedHash {
     pub hash: Hash256,
     pub place: u32,
 }
