@@ -17,10 +17,11 @@ pub enum LineageFault {
     Seqno { stated: u32, due: u64 },
 }
 
-/// Whether a block may have these parents: none for a zero state, whose seqno is 0, and else one, whose shard the
-/// block's shard is or is a half of, and whose seqno is one less.
+/// Whether a block may have these parents: none for a zero state, whose seqno is 0; one, whose shard the block's shard
+/// is or is a half of, and whose seqno is one less; or two after a merge of two shards, the left and the right half of
+/// the block's shard in that order, of which the greater seqno is one less.
 ///
-/// The shard is looked at first. Two parents are refused as `Shard`.
+/// The shard is looked at first. More than two parents are refused as `Shard`.
 #[tactic(auto, unfolding(crate::specs::Lineage::lineage_fault))]
 pub fn lineage(id: &BlockId, parents: &[BlockId]) -> Result<(), LineageFault>
     ensures { MatchResult result
@@ -33,6 +34,10 @@ pub fn lineage(id: &BlockId, parents: &[BlockId]) -> Result<(), LineageFault>
         [parent] => {
             let fits = is_valid_shard(shard) && stays_or_splits(shard, &parent.shard_id);
             answer_by(fits, id.seqno, u64::from(parent.seqno) + 1)
+        }
+        [left, right] => {
+            let fits = are_halves(&left.shard_id, &right.shard_id, shard);
+            answer_by(fits, id.seqno, u64::from(left.seqno.max(right.seqno)) + 1)
         }
         _ => Err(LineageFault::Shard),
     }
@@ -66,4 +71,12 @@ fn stays_or_splits(shard: &ShardId, parent: &ShardId) -> bool
     ensures { result ≡ spec.stays_or_splits shard.now parent.now }
 {
     shard == parent || shard.is_child_of(parent)
+}
+
+/// Whether two shards are the left and the right half of another.
+#[tactic(auto, unfolding(crate::specs::Lineage::are_halves))]
+fn are_halves(left: &ShardId, right: &ShardId, shard: &ShardId) -> bool
+    ensures { result ≡ spec.are_halves left.now right.now shard.now }
+{
+    left.is_child_of(shard) && right.is_child_of(shard) && left.shard < right.shard
 }

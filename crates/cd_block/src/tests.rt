@@ -146,6 +146,36 @@ fn a_seqno_follows_the_parents(rt: HostRuntime) {
 }
 
 #[test]
+fn a_block_after_a_merge_has_two_parents(rt: HostRuntime) {
+    let left = block(0, LEFT, 7);
+    let right = block(0, RIGHT, 9);
+    let merged = block(0, WHOLE, 10);
+    let early = LineageFault::Seqno { stated: 9, due: 10 };
+    let past_the_last = LineageFault::Seqno {
+        stated: 0,
+        due: 4_294_967_296,
+    };
+    let table = [
+        (merged, left, right, Ok(())),
+        (merged, right, left, Err(LineageFault::Shard)),
+        (merged, left, left, Err(LineageFault::Shard)),
+        (block(0, LEFT, 10), left, right, Err(LineageFault::Shard)),
+        (block(1, WHOLE, 10), left, right, Err(LineageFault::Shard)),
+        (block(0, WHOLE, 9), left, right, Err(early)),
+        (
+            block(0, WHOLE, 0),
+            left,
+            block(0, RIGHT, u32::MAX),
+            Err(past_the_last),
+        ),
+    ];
+    for (id, first, second, due) in &table {
+        assert!(rt; lineage(id, &[*first, *second]) == *due);
+    }
+    assert!(rt; lineage(&merged, &[left, right, right]) == Err(LineageFault::Shard));
+}
+
+#[test]
 fn a_block_expires_by_every_top_that_it_meets(rt: HostRuntime) {
     let master = block(-1, WHOLE, 9);
     let tops = [block(0, LEFT, 5), block(0, RIGHT, 6)];

@@ -1,17 +1,16 @@
 -- A field that is read is the field that was written, and what was written is read again.
-use Rattle.std.proofs.Common.{◌≡◌, ℕ, ◌+◌, ◌-◌, ◌/◌, ◌%◌, ◌^◌, ◌<◌, ◌≤◌, Bool, true, false, not, ◌&&◌, ◌||◌, cond, ltb, eqb, List, [], ◌∷◌, ◌++◌, length, get_or, take, drop, Result, Ok, Err, refl, sym, ap, subst, ◌∙◌, arith}
-use Rattle.std.specs.Int.{w32, to_be_bytes, from_be_bytes}
-use Rattle.std.proofs.lemmas.Bool.{eqb-true, eqb-false, ltb-false, le-ltb, ne_eqb}
+use Rattle.std.proofs.Common.{◌≡◌, ℕ, ◌+◌, ◌-◌, ◌/◌, ◌%◌, ◌^◌, ◌<◌, ◌≤◌, Bool, true, false, not, ◌&&◌, ◌||◌, cond, ltb, eqb, List, [], ◌∷◌, ◌++◌, length, get_or, take, drop, Result, Ok, Err, refl, sym, ap, subst, ◌∙◌, ◌⊎◌, inl, inr, ⊎_elim, arith}
+use Rattle.std.proofs.lemmas.Bool.{or_cases, eqb-true, eqb-false, ltb-false, le-ltb, ne_eqb}
 use Rattle.std.proofs.lemmas.List.{take_at, drop_at, take-append-drop, length-append, length-take}
-use Rattle.std.proofs.lemmas.Nat.{be_bytes_4, from_be_bytes-to_be_bytes_4}
-use Rattle.cd_base.specs.Numbers.{IsBytes}
-use Rattle.cd_base.specs.Reading.{part_at, byte_at}
+use Rattle.cd_base.specs.Numbers.{IsBytes, big}
+use Rattle.cd_base.specs.Reading.{part_at, byte_at, number_at}
 use Rattle.cd_base.proofs.NumberLaws.{IsBytes-cons}
-use Rattle.cd_base.proofs.ReadingLaws.{by_ok, no_fault, kept_by_test, Takes, TakesByte, part_takes, part_again, byte_takes}
+use Rattle.cd_base.proofs.ReadingLaws.{by_ok, no_fault, kept_by_test, Takes, TakesByte, part_takes, part_again, byte_takes, number_takes, number_again}
 use Rattle.cd_cell.specs.BitText.{data_of, data_bits, is_odd, IsBitData}
 use Rattle.cd_cell.specs.Levels.{descriptor2}
 use Rattle.cd_cell.proofs.BitLemmas.{length-data_of}
 use Rattle.cd_cell.proofs.DataBits.{data_of-data_bits, data_bits-few, descriptor2-data_bits_whole, descriptor2-data_bits_cut, data_bits-data_of, IsBitData-data_of}
+use Rattle.cd_record.specs.declared.limits.TheConstants.{GREATEST_COUNT}
 use Rattle.cd_record.specs.declared.record_fault.RecordFault.{RecordFault}
 use Rattle.cd_record.specs.declared.record_fault.RecordFault.TheVariants.{Version, Cut, Form}
 use Rattle.cd_record.specs.RecordReading.{version_at, count_at, descriptor_at, bits_at, mask_at, lacks_completion}
@@ -21,44 +20,52 @@ same_cons a b xs ys e f = rw (e, f) refl
 
 -- ---- version and count
 
-pub version_takes : (bytes rest : List ℕ) → IsBytes bytes → version_at bytes ≡ Ok rest → TakesByte bytes 1 rest
-unfolding version_at
-version_takes bytes rest fits e =
-    by_ok (byte_at Cut bytes) _ rest e (λ version e0 k0.
-    let t = byte_takes Cut bytes version fits e0 in
-    let g = kept_by_test (eqb version.0 1) (Version version.0) version.1 rest k0 in
-    subst (TakesByte bytes 1) g.1 (subst (λ n. TakesByte bytes n version.1) (eqb-true _ _ g.0) t))
-
-pub version_again : (rest : List ℕ) → version_at (1 ∷ rest) ≡ Ok rest
-unfolding version_at byte_at
-version_again rest = refl
-
-pub count_takes : (bytes : List ℕ) (x : ℕ × List ℕ) → IsBytes bytes → count_at bytes ≡ Ok x → Takes bytes (to_be_bytes w32 x.0) x.1 × (1 ≤ x.0) × (x.0 < 2 ^ 32)
-unfolding count_at
-count_takes bytes x fits e =
-    by_ok (part_at Cut 4 bytes) _ x e (λ part e0 k0.
-    let t = part_takes Cut 4 bytes part fits e0 in
-    let count = from_be_bytes w32 part.0 in
-    let g = no_fault (eqb count 0) Form (count, part.1) x k0 in
-    let text : to_be_bytes w32 count ≡ part.0 = be_bytes_4 part.0 count t.1 t.0.text_fits refl in
-    let few : count < 2 ^ 32 = omega (arith, t.0.text_fits 0, t.0.text_fits 1, t.0.text_fits 2, t.0.text_fits 3) in
-    subst (λ (y : ℕ × List ℕ). Takes bytes (to_be_bytes w32 y.0) y.1 × (1 ≤ y.0) × (y.0 < 2 ^ 32)) g.1
-    (subst (λ (w : List ℕ). Takes bytes w part.1) (sym text) t.0, omega (arith, eqb-false _ _ g.0), few))
-
-count_read : (count : ℕ) (part rest : List ℕ) → 1 ≤ count → length part ≡ 4 → from_be_bytes w32 part ≡ count → count_at (part ++ rest) ≡ Ok (count, rest)
-unfolding count_at
-count_read count part rest some len is =
-    let not_none : eqb count 0 ≡ false = ne_eqb count 0 (λ h. omega arith) in
-    rw (part_again Cut 4 part rest len, is, not_none) refl
-
-pub count_again : (count : ℕ) (rest : List ℕ) → 1 ≤ count → count < 2 ^ 32 → count_at (to_be_bytes w32 count ++ rest) ≡ Ok (count, rest)
-count_again count rest some few = count_read count (to_be_bytes w32 count) rest some refl (from_be_bytes-to_be_bytes_4 count few)
-
--- ---- the first descriptor
-
 no_or : (a b : Bool) → (a || b) ≡ false → (a ≡ false) × (b ≡ false)
 no_or true b h = absurd cc
 no_or false b h = (refl, h)
+
+-- a version: 01 or 02
+abbrev pub IsVersion : ℕ → Type 0
+IsVersion version = (version ≡ 1) ⊎ (version ≡ 2)
+
+either : (n : ℕ) → (eqb n 1 || eqb n 2) ≡ true → IsVersion n
+either n h = ⊎_elim (λ one. inl (eqb-true n 1 one)) (λ two. inr (eqb-true n 2 two)) (or_cases (eqb n 1) (eqb n 2) h)
+
+pub version_takes : (bytes : List ℕ) (x : ℕ × List ℕ) → IsBytes bytes → version_at bytes ≡ Ok x → TakesByte bytes x.0 x.1 × IsVersion x.0
+unfolding version_at
+version_takes bytes x fits e =
+    by_ok (byte_at Cut bytes) _ x e (λ version e0 k0.
+    let t = byte_takes Cut bytes version fits e0 in
+    let g = kept_by_test (eqb version.0 1 || eqb version.0 2) (Version version.0) version x k0 in
+    subst (λ (y : ℕ × List ℕ). TakesByte bytes y.0 y.1 × IsVersion y.0) g.1 (t, either version.0 g.0))
+
+pub version_again-1 : (rest : List ℕ) → version_at (1 ∷ rest) ≡ Ok (1, rest)
+unfolding version_at byte_at
+version_again-1 rest = refl
+
+pub version_again-2 : (rest : List ℕ) → version_at (2 ∷ rest) ≡ Ok (2, rest)
+unfolding version_at byte_at
+version_again-2 rest = refl
+
+pub count_takes : (len : ℕ) (bytes : List ℕ) (x : ℕ × List ℕ) → IsBytes bytes → count_at len bytes ≡ Ok x
+    → Takes bytes (big len x.0) x.1 × (1 ≤ x.0) × (x.0 ≤ GREATEST_COUNT) × (x.0 < 256 ^ len)
+unfolding count_at
+count_takes len bytes x fits e =
+    by_ok (number_at Cut len bytes) _ x e (λ count e0 k0.
+    let t = number_takes Cut len bytes count fits e0 in
+    let g = no_fault (eqb count.0 0 || ltb GREATEST_COUNT count.0) Form count x k0 in
+    let h = no_or _ _ g.0 in
+    let some : 1 ≤ count.0 = omega (arith, eqb-false _ _ h.0) in
+    subst (λ (y : ℕ × List ℕ). Takes bytes (big len y.0) y.1 × (1 ≤ y.0) × (y.0 ≤ GREATEST_COUNT) × (y.0 < 256 ^ len)) g.1
+    (t.0, some, ltb-false GREATEST_COUNT count.0 h.1, t.1))
+
+pub count_again : (len count : ℕ) (rest : List ℕ) → 1 ≤ count → count ≤ GREATEST_COUNT → count < 256 ^ len → count_at len (big len count ++ rest) ≡ Ok (count, rest)
+unfolding count_at
+count_again len count rest some few small =
+    let not_none : eqb count 0 ≡ false = ne_eqb count 0 (λ h. omega arith) in
+    rw (number_again Cut len count rest small, not_none, le-ltb GREATEST_COUNT count few) refl
+
+-- ---- the first descriptor
 
 pub descriptor_takes : (bytes : List ℕ) (x : ℕ × List ℕ) → IsBytes bytes → descriptor_at bytes ≡ Ok x → TakesByte bytes x.0 x.1 × (is_odd (x.0 / 16) ≡ false) × (x.0 % 8 ≤ 4)
 unfolding descriptor_at

@@ -1,8 +1,8 @@
 -- Trusted: reading a record from left to right, with the first fault that is met.
 use Rattle.std.specs.Prelude.{◌≡◌, ℕ, zero, suc, ◌+◌, ◌-◌, ◌*◌, ◌/◌, ◌%◌, ◌==◌, nat_lt, Bool, not, ◌&&◌, ◌||◌, List, [], ◌∷◌, length, take, drop, slice_index, Option, Some, None, Result, Ok, Err, if◌then◌else◌}
-use Rattle.std.specs.Int.{w16, w32, from_be_bytes}
+use Rattle.std.specs.Int.{w16, from_be_bytes}
 use Rattle.cd_base.specs.declared.hash.Hash256.{Hash256}
-use Rattle.cd_base.specs.Reading.{◌>>=◌, part_at, byte_at, each_at}
+use Rattle.cd_base.specs.Reading.{◌>>=◌, part_at, byte_at, number_at, each_at}
 use Rattle.cd_cell.specs.declared.info.ChildInfo.{ChildInfo}
 use Rattle.cd_cell.specs.declared.cell_fault.CellFault.{CellFault}
 use Rattle.cd_cell.specs.Masks.{lowest_bits, bit_count}
@@ -10,21 +10,26 @@ use Rattle.cd_cell.specs.BitText.{is_odd, data_bits}
 use Rattle.cd_cell.specs.FaceView.{FaceView}
 use Rattle.cd_cell.specs.Levels.{mask_of_face}
 use Rattle.cd_cell.specs.CellFaults.{face_fault}
+use Rattle.cd_record.specs.declared.limits.TheConstants.{GREATEST_COUNT}
 use Rattle.cd_record.specs.declared.record.Record.{Record}
 use Rattle.cd_record.specs.declared.record_fault.RecordFault.{RecordFault}
 use Rattle.cd_record.specs.declared.record_fault.RecordFault.TheVariants.{Version, Cut, Extra, Form, Cell}
 
--- the first byte
-unfoldable pub version_at : List ℕ → Result (List ℕ) RecordFault
+-- the first byte, which is 01 or 02
+unfoldable pub version_at : List ℕ → Result (ℕ × List ℕ) RecordFault
 version_at bytes = do
   version ← byte_at Cut bytes
-  if version.0 == 1 then Ok version.1 else Err (Version version.0)
+  if version.0 == 1 || version.0 == 2 then Ok version else Err (Version version.0)
 
--- four bytes of count, which isn't 0
-unfoldable pub count_at : List ℕ → Result (ℕ × List ℕ) RecordFault
-count_at bytes = do
-  part ← part_at Cut 4 bytes
-  if from_be_bytes w32 part.0 == 0 then Err Form else Ok (from_be_bytes w32 part.0, part.1)
+-- how many bytes of count a version has
+abbrev pub count_len : ℕ → ℕ
+count_len version = if version == 1 then 4 else 8
+
+-- so many bytes of count, which is neither 0 nor over the greatest
+unfoldable pub count_at : ℕ → List ℕ → Result (ℕ × List ℕ) RecordFault
+count_at len bytes = do
+  count ← number_at Cut len bytes
+  if count.0 == 0 || nat_lt GREATEST_COUNT count.0 then Err Form else Ok count
 
 -- the first descriptor: at most four references, and no stored hashes
 unfoldable pub descriptor_at : List ℕ → Result (ℕ × List ℕ) RecordFault
@@ -83,8 +88,8 @@ record_of count mask face None = if mask_of_face face == mask then Ok (record { 
 -- all of the bytes
 unfoldable pub record_in : List ℕ → Result Record RecordFault
 record_in bytes = do
-  front ← version_at bytes
-  count ← count_at front
+  version ← version_at bytes
+  count ← count_at (count_len version.0) version.1
   descriptor ← descriptor_at count.1
   bits ← bits_at descriptor.1
   kids ← each_at kid_at (descriptor.0 % 8) bits.1

@@ -1,7 +1,7 @@
--- Trusted: the text of a stored cell's record, under the cell's hash.
+-- Trusted: the text of a stored cell's record, under the cell's hash, in two versions.
 use Rattle.std.specs.Prelude.{ℕ, List, ◌∷◌, ◌++◌}
 use Rattle.std.specs.List.{flat_map}
-use Rattle.std.specs.Int.{w32, to_be_bytes}
+use Rattle.cd_base.specs.Numbers.{big}
 use Rattle.cd_cell.specs.declared.info.ChildInfo.{ChildInfo}
 use Rattle.cd_cell.specs.BitText.{data_of}
 use Rattle.cd_cell.specs.StoredText.{stored_hashes, stored_depths}
@@ -12,8 +12,15 @@ use Rattle.cd_cell.specs.Levels.{mask_of_face, descriptor1, descriptor2}
 unfoldable pub kid_text : ChildInfo → List ℕ
 kid_text k = k.mask ∷ stored_hashes k ++ stored_depths k
 
--- the version, four bytes of count, the cell's descriptors and data, and its children
+-- the cell's descriptors and data, and its children
+unfoldable pub face_text : FaceView → List ℕ
+face_text face =
+    descriptor1 face (mask_of_face face) ∷ descriptor2 face.bits ∷ data_of face.bits ++ flat_map kid_text face.kids
+
+-- version 2, which is written: eight bytes of count, and the face
 unfoldable pub record_text : ℕ → FaceView → List ℕ
-record_text count face =
-    1 ∷ to_be_bytes w32 count ++ descriptor1 face (mask_of_face face) ∷ descriptor2 face.bits ∷ data_of face.bits
-    ++ flat_map kid_text face.kids
+record_text count face = 2 ∷ big 8 count ++ face_text face
+
+-- version 1, which is read beside it: four bytes of count, and the face
+unfoldable pub record_text_v1 : ℕ → FaceView → List ℕ
+record_text_v1 count face = 1 ∷ big 4 count ++ face_text face

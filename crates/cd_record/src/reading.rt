@@ -1,37 +1,50 @@
-ghost use Rattle.std.specs.Prelude.{◌≡◌, ℕ, ◌+◌, ◌*◌, ◌%◌, ◌≤◌, ◌<◌, length, take, IfOk};
+ghost use Rattle.std.specs.Prelude.{◌≡◌, ℕ, ◌+◌, ◌*◌, ◌%◌, ◌≤◌, ◌<◌, length, take, slice_get, IfOk};
 ghost use Rattle.cd_base.specs.Reading.{Gives, each_at};
 ghost use Rattle.cd_cell.specs.CellFaults.{face_fault};
 ghost use Rattle.cd_cell.specs.Masks.{bit_count};
 ghost use Rattle.cd_record.specs.declared.record.Record.{Record};
-ghost use Rattle.cd_record.specs.RecordText.{record_text};
-ghost use Rattle.cd_record.specs.Records.{IsRecord};
+ghost use Rattle.cd_record.specs.Records.{IsRecord, IsTextOf};
 ghost use Rattle.cd_record.specs.RecordReading as spec;
 
+use crate::limits::GREATEST_COUNT;
 use crate::record::Record;
 use crate::record_fault::RecordFault;
-use cd_base::{Hash256, byte_at, part_at};
+use cd_base::{Hash256, byte_at, number_at, part_at};
 use cd_cell::{Bits, ChildInfo, Face, Mask};
 
-#[tactic(auto, unfolding(crate::specs::RecordReading::version_at))]
-fn version_at(bytes: &[u8]) -> Result<&[u8], RecordFault>
-    ensures { Gives (λ rest. rest.now) result (spec.version_at bytes.now) }
+/// The first byte of a record's text, which is its version. `None` exactly where there is no byte.
+pub fn version_of(bytes: &[u8]) -> Option<u8>
+    ensures { result ≡ slice_get bytes.now 0 }
 {
-    let (version, rest) = byte_at(RecordFault::Cut, bytes)?;
-    if version != 1 {
-        return Err(RecordFault::Version { value: version });
-    }
-    Ok(rest)
+    bytes.first().copied()
 }
 
-#[tactic(auto, unfolding(crate::specs::RecordReading::count_at, cd_base::specs::Reading::part_at))]
-fn count_at(bytes: &[u8]) -> Result<(u32, &[u8]), RecordFault>
-    ensures { Gives (λ x. (x.0, x.1.now)) result (spec.count_at bytes.now) }
+#[tactic(auto, unfolding(crate::specs::RecordReading::version_at))]
+fn version_at(bytes: &[u8]) -> Result<(u8, &[u8]), RecordFault>
+    ensures { Gives (λ x. (x.0, x.1.now)) result (spec.version_at bytes.now) }
 {
-    let Some((part, rest)) = bytes.split_first_chunk::<4>() else {
-        return Err(RecordFault::Cut);
-    };
-    let count = u32::from_be_bytes(*part);
-    if count == 0 {
+    let (version, rest) = byte_at(RecordFault::Cut, bytes)?;
+    if version == 1 || version == 2 {
+        return Ok((version, rest));
+    }
+    Err(RecordFault::Version { value: version })
+}
+
+/// How many bytes of count a version has.
+fn count_len(version: u8) -> u8
+    ensures value { result ≡ spec.count_len version }
+    ensures small { result ≤ 8 }
+{
+    if version == 1 { 4 } else { 8 }
+}
+
+#[tactic(auto, unfolding(crate::specs::RecordReading::count_at))]
+fn count_at(len: u8, bytes: &[u8]) -> Result<(u64, &[u8]), RecordFault>
+    requires { len ≤ 8 }
+    ensures { Gives (λ x. (x.0, x.1.now)) result (spec.count_at len bytes.now) }
+{
+    let (count, rest) = number_at(RecordFault::Cut, len, bytes)?;
+    if count == 0 || GREATEST_COUNT < count {
         return Err(RecordFault::Form);
     }
     Ok((count, rest))
@@ -152,7 +165,7 @@ fn kids_at(count: u8, bytes: &[u8]) -> Result<([ChildInfo; 4], &[u8]), RecordFau
 }
 
 /// A record, unless its face is at fault or another mask is stated.
-fn record_of(count: u32, mask: u8, face: Face) -> Result<Record, RecordFault>
+fn record_of(count: u64, mask: u8, face: Face) -> Result<Record, RecordFault>
     ensures { Gives (λ found. found) result (spec.record_of count mask face (face_fault face)) }
 {
     if let Err(fault) = face.check() {
@@ -161,10 +174,7 @@ fn record_of(count: u32, mask: u8, face: Face) -> Result<Record, RecordFault>
     if face.mask().byte() != mask {
         return Err(RecordFault::Form);
     }
-    Ok(Record {
-        count: u64::from(count),
-        face,
-    })
+    Ok(Record { count, face })
 }
 
 /// The record that the bytes spell, all of them.
@@ -172,8 +182,8 @@ fn record_of(count: u32, mask: u8, face: Face) -> Result<Record, RecordFault>
 fn record_at(bytes: &[u8]) -> Result<Record, RecordFault>
     ensures { Gives (λ found. found) result (spec.record_in bytes.now) }
 {
-    let rest = version_at(bytes)?;
-    let (count, rest) = count_at(rest)?;
+    let (version, rest) = version_at(bytes)?;
+    let (count, rest) = count_at(count_len(version), rest)?;
     let (descriptor, rest) = descriptor_at(rest)?;
     let (bits, rest) = match bits_at(rest) {
         Ok(found) => found,
@@ -191,15 +201,14 @@ fn record_at(bytes: &[u8]) -> Result<Record, RecordFault>
     record_of(count, descriptor / 32, face)
 }
 
-/// Reads a stored record. Takes no memory.
+/// Reads a stored record, of either version. Takes no memory.
 pub fn decode(bytes: &[u8]) -> Result<Record, RecordFault>
     // What is read is spelled so.
-    ensures found { IfOk result (λ found. IsRecord found × (bytes.now
-        ≡ record_text found.count found.face)) }
+    ensures found { IfOk result (λ found. IsRecord found × IsTextOf found bytes.now) }
 
     // What is spelled so is read.
-    ensures only { (known : Record) → IsRecord known → bytes.now
-        ≡ record_text known.count known.face → result ≡ Ok known }
+    ensures only { (known : Record) → IsRecord known → IsTextOf known bytes.now
+        → result ≡ Ok known }
 
     // Which fault it is.
     ensures exact { result ≡ spec.record_in bytes.now }

@@ -5,7 +5,7 @@ use thiserror::Error;
 /// face as a whole, and the mask of its first descriptor come last.
 #[derive(Clone, Copy, Debug, PartialEq, Eq, Error)]
 pub enum RecordFault {
-    /// The first byte is there, and isn't 1.
+    /// The first byte is there, and is neither 1 nor 2.
     #[error("a record of version {value}")]
     Version { value: u8 },
     /// A field runs past the end.
@@ -14,7 +14,7 @@ pub enum RecordFault {
     /// Bytes stand behind the last field.
     #[error("bytes stand behind the record")]
     Extra,
-    /// The count is 0, a descriptor or a child's mask is none, the data lack their completion, or the mask that the
+    /// The count is 0 or over the greatest, a descriptor or a child's mask is none, the data lack their completion, or the mask that the
     /// first descriptor states isn't the cell's.
     #[error("a field of the record is outside its range")]
     Form,

@@ -1,6 +1,6 @@
 -- Storing a bag's state in an empty keeper ends as the table of ends says.
-use Rattle.std.proofs.Common.{◌≡◌, ℕ, List, [], ◌∷◌, false, Option, Some, None, refl, ap, subst, ◌∙◌}
-use Rattle.std.specs.Prelude.{IfSome}
+use Rattle.std.proofs.Common.{◌≡◌, ℕ, List, [], ◌∷◌, false, Option, Some, None, refl, sym, ap, subst, ◌∙◌}
+use Rattle.std.specs.Prelude.{is_some, IfSome}
 use Rattle.std.specs.Option.{option_map}
 use Rattle.cd_base.specs.declared.hash.Hash256.{Hash256}
 use Rattle.cd_base.specs.declared.source.Source.{Ghosts as SourceGhosts}
@@ -8,13 +8,23 @@ use Rattle.cd_base.specs.declared.sink.Sink.{Ghosts as SinkGhosts}
 use Rattle.cd_cell.specs.Tree.{Tree, rep_of}
 use Rattle.cd_keeper.specs.declared.keeper.Keeper.{Ghosts as KeeperGhosts}
 use Rattle.cd_keeper.specs.Contents.{Contents, Change, changed, no_contents}
-use Rattle.cd_world.specs.Image.{change_of, image_of}
+use Rattle.cd_world.specs.Image.{change_of, image_of, IsContentsOf, IsPlain}
+use Rattle.cd_world.proofs.Plain.{image-is, image-plain}
 use Rattle.cd_world.proofs.Puts.{changed-change_of}
 use Rattle.cd_top.specs.declared.status.Status.{Status}
 use Rattle.cd_top.specs.declared.status.Status.TheVariants as status
 use Rattle.cd_top.specs.declared.status.InputFault.TheVariants as input
 use Rattle.cd_top.specs.Zero.{zero_id, zero_world, zero_text}
 use Rattle.cd_top.specs.ZeroCall.{IsInput, IsOfState, IsRefusal, IsStored, IsMade, IsKept, HasGot, HasFailed, AreSame, ZeroEnds, IsStoring}
+
+-- what is told of a keeper, where it told before
+all-told : (old new : Option Contents) (image : Contents) → new ≡ option_map (λ _. image) old → is_some new ≡ is_some old
+all-told None new image e = ap is_some e
+all-told (Some contents) new image e = ap is_some e
+
+all-held : (P : Contents → Type 0) (old new : Option Contents) (image : Contents) → new ≡ option_map (λ _. image) old → P image → IfSome new P
+all-held P None new image e p = subst (λ (o : Option Contents). IfSome o P) (sym e) tt
+all-held P (Some contents) new image e p = subst (λ (o : Option Contents). IfSome o P) (sym e) p
 
 module _ (H : List ℕ → Hash256) where
   -- what the change makes of empty contents is the image
@@ -31,7 +41,16 @@ module _ (H : List ℕ → Hash256) where
     stored : (change : Change) (state : Tree) → IfSome (k.held keeper) (λ contents. contents ≡ no_contents) → change ≡ change_of H (zero_world H state)
         → (text : List ℕ) → IsMade o k change text keeper keeper_after → IsStored H k state keeper keeper_after
     stored change state empty is text e =
-        record { held = e.applied.made ∙ held-after (k.held keeper) change state empty is; trail = e.applied.trailed; batches = e.applied.counted; steady = e.steady }
+        let world = zero_world H state in
+        let now = e.applied.made ∙ held-after (k.held keeper) change state empty is in
+        record {
+          told = all-told (k.held keeper) (k.held keeper_after) (image_of H world) now;
+          held = all-held (IsContentsOf H world) (k.held keeper) (k.held keeper_after) (image_of H world) now (image-is H world);
+          plain = all-held IsPlain (k.held keeper) (k.held keeper_after) (image_of H world) now (image-plain H world);
+          trail = e.applied.trailed;
+          batches = e.applied.counted;
+          steady = e.steady;
+        }
 
     pub ends-from_storing : (change : Change) (text : List ℕ) (state : Tree) (end : Status)
         → IfSome (k.held keeper) (λ contents. contents ≡ no_contents) → IsOfState H s state i j

@@ -1,5 +1,5 @@
 -- Trusted: how a call of the program ends: what each status says of the words, the input, the output and the keeper.
-use Rattle.std.specs.Prelude.{◌≡◌, ◌≢◌, ℕ, ◌<◌, ◌≤◌, List, [], ◌∷◌, length, Some, IfSome, codes, string_bytes}
+use Rattle.std.specs.Prelude.{◌≡◌, ◌≢◌, ℕ, ◌<◌, ◌≤◌, List, [], ◌∷◌, length, Some, is_some, IfSome, codes, string_bytes}
 use Rattle.std.specs.Option.{option_map}
 use Rattle.cd_base.specs.declared.hash.Hash256.{Hash256}
 use Rattle.cd_base.specs.declared.source.Source.{Ghosts as SourceGhosts}
@@ -12,7 +12,7 @@ use Rattle.cd_keeper.specs.Contents.{Change}
 use Rattle.cd_keeper.specs.Keeping.{longer, IsApplied, KeepsHeld}
 use Rattle.cd_boc_read.specs.Grammar.{Spells}
 use Rattle.cd_boc_read.specs.BagFaults.{bag_fault}
-use Rattle.cd_world.specs.Image.{change_of, image_of}
+use Rattle.cd_world.specs.Image.{change_of, IsContentsOf, IsPlain}
 use Rattle.cd_top.specs.declared.status.Status.{Status}
 use Rattle.cd_top.specs.declared.status.Status.TheVariants as status
 use Rattle.cd_top.specs.declared.status.WordFault.TheVariants as word
@@ -73,9 +73,12 @@ module _ (H : List ℕ → Hash256) {S : Type 0} (s : SourceGhosts S) where
     pub refusal : IsRefusal H bytes end
 
 module _ (H : List ℕ → Hash256) {K : Type 0} (k : KeeperGhosts K) where
-  -- the keeper holds the image of the world with the one block of this state, made in one batch without a fault
+  -- the keeper's contents are those of the world with the one block of this state, in records of version 2 alone, and
+  -- were made in one batch without a fault
   pub record IsStored (state : Tree) (old new : K) : Type 0 where
-    pub held : k.held new ≡ option_map (λ _. image_of H (zero_world H state)) (k.held old)
+    pub told : is_some (k.held new) ≡ is_some (k.held old)
+    pub held : IfSome (k.held new) (IsContentsOf H (zero_world H state))
+    pub plain : IfSome (k.held new) IsPlain
     pub trail : k.trail new ≡ longer (k.trail old) (k.held new)
     pub batches : k.batches new ≡ one_more (k.batches old)
     pub steady : NoFault (k.faults old) (k.faults new)

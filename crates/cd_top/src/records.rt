@@ -23,7 +23,7 @@ pub fn records_of<H: Hash32>(
     let mut puts = Vec::with_capacity(alloc, order.len())?;
     for (at, placed) in order.iter().enumerate() {
         let face = &cells[placed.1 as usize].face;
-        puts.push((placed.0, encode_cell(alloc, counts[at], face)?))?;
+        puts.push((placed.0, encode_cell(alloc, u64::from(counts[at]), face)?))?;
     }
     Ok(puts)
 }

@@ -73,7 +73,7 @@ fn one_cell_is_stored_and_printed(rt: HostRuntime) -> Result<(), Fail> {
     let (status, mut keeper) = zero(alloc, &mut input, &mut out, SteadyKeeper::new(alloc))?;
     assert!(rt; status == Status::Ok);
     assert!(rt; out.taken() == EMPTY_LINES.as_bytes());
-    assert!(rt; has_cell(&mut keeper, &EMPTY, &[1, 0, 0, 0, 1, 0, 0])?);
+    assert!(rt; has_cell(&mut keeper, &EMPTY, &[2, 0, 0, 0, 0, 0, 0, 0, 1, 0, 0])?);
     assert!(rt; keeper.batches() == 1);
     // The description has a version, the root and its depth.
     let mut due = [1, 0, 0].to_vec(alloc)?;
@@ -91,13 +91,17 @@ fn a_child_in_four_places_counts_four(rt: HostRuntime) -> Result<(), Fail> {
     let mut out = SteadySink::new(alloc);
     let (status, mut keeper) = zero(alloc, &mut input, &mut out, SteadyKeeper::new(alloc))?;
     assert!(rt; status == Status::Ok);
-    assert!(rt; has_cell(&mut keeper, &EMPTY, &[1, 0, 0, 0, 4, 0, 0])?);
+    assert!(rt; has_cell(&mut keeper, &EMPTY, &[2, 0, 0, 0, 0, 0, 0, 0, 4, 0, 0])?);
     let (first, second) = first_cells(&mut keeper)?;
     let first = first.ok_or("no record")?;
     let second = second.ok_or("one record")?;
     let root = if first == EMPTY { second } else { first };
     let record = keeper.get_cell(&root)?.ok_or("no root")?;
-    assert!(rt; record.as_slice().starts_with(&[1, 0, 0, 0, 1, 4, 0]));
+    assert!(rt;
+        record
+            .as_slice()
+            .starts_with(&[2, 0, 0, 0, 0, 0, 0, 0, 1, 4, 0])
+    );
     Ok(())
 }
 
@@ -120,7 +124,7 @@ fn a_sink_that_fails_leaves_the_block_stored(rt: HostRuntime) -> Result<(), Fail
     let mut out = MemorySink::new(alloc, [0].to_vec(alloc)?);
     let (status, mut keeper) = zero(alloc, &mut input, &mut out, SteadyKeeper::new(alloc))?;
     assert!(rt; status == Status::WriteFault);
-    assert!(rt; has_cell(&mut keeper, &EMPTY, &[1, 0, 0, 0, 1, 0, 0])?);
+    assert!(rt; has_cell(&mut keeper, &EMPTY, &[2, 0, 0, 0, 0, 0, 0, 0, 1, 0, 0])?);
     Ok(())
 }
 

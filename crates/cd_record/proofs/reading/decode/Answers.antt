@@ -1,6 +1,6 @@
-use Rattle.std.proofs.Common.{arith, ap, ◌∙◌}
+use Rattle.std.proofs.Common.{arith, ◌∙◌}
 use Rattle.cd_record.specs.RecordReading.{record_in}
-use Rattle.cd_record.proofs.RecordLaws.{is_found, given-is, record_again}
+use Rattle.cd_record.proofs.RecordLaws.{is_found, given-is, text_again}
 use Rattle.cd_record.proofs.reading.decode.Goals as goal
 
 pub returns-clause-found : goal.returns-clause-found
@@ -9,7 +9,7 @@ returns-clause-found c =
 
 pub returns-clause-only : goal.returns-clause-only
 returns-clause-only c = λ known fit is.
-    given-is c.record_at.result (record_in c.args.bytes.now) c.record_at.ensures ∙ ap record_in is ∙ record_again known fit
+    given-is c.record_at.result (record_in c.args.bytes.now) c.record_at.ensures ∙ text_again known fit c.args.bytes.now is
 
 pub returns-clause-exact : goal.returns-clause-exact
 returns-clause-exact c = given-is c.record_at.result (record_in c.args.bytes.now) c.record_at.ensures

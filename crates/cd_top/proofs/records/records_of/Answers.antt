@@ -55,7 +55,7 @@ loop-at-preserved g c =
     let there = placed-in value.cells order c.requires.order p (Contains-get_or order at d in') in
     let cell = ap (λ cs. get_or cs p.1 c.index-cells-placed.result) c.cells-cells.ensures.value ∙ get_or_default value.cells p.1 c.index-cells-placed.result no_cell there.0 in
     let face = ap (λ (n : NewCell). n.face) cell in
-    let count = c.requires.counts.counted at in' ∙ ap (λ (q : Hash256 × ℕ). references value.root value.cells q.0) (get_or_default order at (no_hash, 0) d in') in
+    let count = c.from.ensures ∙ c.requires.counts.counted at in' ∙ ap (λ (q : Hash256 × ℕ). references value.root value.cells q.0) (get_or_default order at (no_hash, 0) d in') in
     let told : text.items ≡ record_text (references value.root value.cells p.0) (listed_at value.cells p.1).face = c.in_ok-encode_cell.ensures ∙ (λ j. record_text (count j) (face j)) in
     let entry : entry_of hash_bytes (p.0, text) ≡ record_put value.root value.cells p = λ j. (let hash = p.0 in hash.0, told j) in
     ap (entries_of hash_bytes) c.in_ok-push.ensures.items
