@@ -1,18 +1,12 @@
 -- What is read from left to right stands at its place in the bytes.
-use Rattle.std.proofs.Common.{◌≡◌, ℕ, ◌+◌, ◌-◌, ◌*◌, ◌%◌, ◌≤◌, ◌&&◌, eqb, leb, ltb, List, [], ◌∷◌, length, get_or, subst, take, drop, Ok, refl, ap, ap₂, ◌∙◌, add-zero, arith}
+use Rattle.std.proofs.Common.{◌≡◌, ℕ, ◌+◌, ◌≤◌, ltb, List, [], ◌∷◌, length, get_or, subst, take, drop, Ok, refl, ap, ◌∙◌, add-zero, arith}
 use Rattle.std.proofs.lemmas.Bool.{ltb-false}
 use Rattle.std.proofs.lemmas.List.{drop-drop, length-drop, get_or-drop}
 use Rattle.cd_base.specs.Numbers.{from_big}
-use Rattle.cd_boc_write.specs.declared.shape.Shape.{Shape}
-use Rattle.cd_boc_write.specs.Frames.{Frame}
-use Rattle.cd_boc_write.specs.CellTexts.{Text}
 use Rattle.cd_boc_read.specs.declared.bag_fault.BagFault.{BagFault}
-use Rattle.cd_boc_read.specs.declared.bag_fault.BagFault.TheVariants.{Magic, Flags, Sizes, Cut, Roots, Absent, Limit}
-use Rattle.cd_boc_read.specs.declared.counts.Counts.{Counts}
-use Rattle.cd_boc_read.specs.Reading.{shape_of, shape_at, are_flags, are_sizes, counts_at, frame_at, roots_at, index_len, end_at, FrameParts, texts_at, frame_of, bag_at}
 use Rattle.cd_base.specs.Reading.{part_at, byte_at, number_at}
-use Rattle.cd_boc_read.specs.Places.{number_in, stated_shape, stated_cells}
-use Rattle.cd_base.proofs.ReadingLaws.{ok_is, by_ok, by_test, no_fault}
+use Rattle.cd_boc_read.specs.Places.{number_in}
+use Rattle.cd_base.proofs.ReadingLaws.{ok_is, by_ok, no_fault}
 
 -- ---- places
 
