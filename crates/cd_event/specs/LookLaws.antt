@@ -1,5 +1,5 @@
 -- Inner: looks under one pin, one after another.
-use Rattle.std.proofs.Common.{◌≡◌, ℕ, ◌+◌, ◌-◌, ◌^◌, ◌≤◌, max, min, Bool, true, false, List, [], ◌∷◌, ◌++◌, map, sum, refl, sym, ap, ◌∙◌, append-nil, append_assoc, arith}
+use Rattle.std.proofs.Common.{◌≡◌, ℕ, ◌+◌, ◌≤◌, Bool, true, false, List, [], ◌∷◌, ◌++◌, sum, refl, sym, ap, ◌∙◌, append-nil, append_assoc, arith}
 use Rattle.std.proofs.lemmas.List.{map-append}
 use Rattle.std.proofs.lemmas.List.Sums.{sum_by-append}
 use Rattle.cd_base.specs.Counts.{Rose}
@@ -9,7 +9,7 @@ use Rattle.cd_event.specs.declared.entry.Entry.{Entry}
 use Rattle.cd_event.specs.declared.entry.Reply.TheVariants as reply
 use Rattle.cd_event.specs.Replies.{who_of}
 use Rattle.cd_event.specs.Pins.{Named}
-use Rattle.cd_event.specs.Turning.{RisesOnly, counted}
+use Rattle.cd_event.specs.Turning.{counted}
 use Rattle.cd_event.specs.Looks.{looks, look_with, failed_look, SamePins, LooksOn, LooksAndFails}
 
 counted-none : (a : ℕ) → a ≡ counted a 0

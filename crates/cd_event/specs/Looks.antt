@@ -44,3 +44,8 @@ module _ {S H : Type 0} (worker faults : S → ℕ) (made : S → List (Entry H)
     pub last : ℕ
     pub added : made new ≡ made old ++ (looks who pin asked ++ failed_look who pin last ∷ [])
     pub counts : asked_new ≡ counted asked_old (sum asked + last)
+
+  -- looks of this name and pin were added, and the last one failed or none
+  abbrev pub LooksUnder : Bool → Who → ℕ → S → S → Type 0
+  LooksUnder true who pin old new = (before after : ℕ) × LooksAndFails who pin old new before after
+  LooksUnder false who pin old new = (before after : ℕ) × LooksOn who pin old new before after

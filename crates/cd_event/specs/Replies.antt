@@ -1,6 +1,5 @@
 -- Trusted: the entry that a call makes, by its answer.
 use Rattle.std.specs.Prelude.{ℕ, Bool, List, [], ◌∷◌, Option, Some, None, Result, Ok, Err}
-use Rattle.std.specs.Option.{option_map}
 use Rattle.cd_event.specs.declared.names.Who.{Who}
 use Rattle.cd_event.specs.declared.names.At.{At}
 use Rattle.cd_event.specs.declared.answers.Stored.{Stored}

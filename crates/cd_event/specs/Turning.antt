@@ -1,5 +1,5 @@
 -- Trusted: what a worker's calls do, whichever core they are made on.
-use Rattle.std.specs.Prelude.{◌≡◌, ℕ, ◌+◌, ◌-◌, ◌^◌, ◌≤◌, ◌<◌, max, min, Bool, true, false, IsTrue, List, ◌++◌, length, All, Contains, slice_get, Option, Some, None, IfSome, Result, Ok, Err}
+use Rattle.std.specs.Prelude.{◌≡◌, ℕ, ◌+◌, ◌-◌, ◌^◌, ◌≤◌, ◌<◌, max, min, Bool, true, false, IsTrue, List, ◌++◌, length, All, Contains, slice_get, Option, Some, IfSome, Result, Ok, Err}
 use Rattle.cd_base.specs.declared.hash.Hash256.{Hash256}
 use Rattle.cd_base.specs.Counts.{Rose}
 use Rattle.cd_block.specs.declared.block.BlockId.{BlockId}

@@ -1,4 +1,4 @@
-ghost use Rattle.std.specs.Prelude.{◌≡◌, ◌≤◌, ℕ, List, [], length, false, IfOk, OnOk, MatchResult};
+ghost use Rattle.std.specs.Prelude.{◌≡◌, ◌≤◌, ℕ, List, [], length, false, IsSome, IfSome, IfOk, OnOk, MatchResult};
 ghost use Rattle.cd_cell.specs.Listings.{Fits};
 ghost use Rattle.cd_event.specs.declared.entry.Entry.{Entry};
 ghost use Rattle.cd_event.specs.Replies.{zero_reply, pin_reply, look_reply, merge_reply, unpin_reply, expire_reply};
@@ -14,6 +14,9 @@ use cd_block::{BlockId, BlockIds};
 use cd_cell::{Face, Hash32, Prepared};
 
 /// A worker's calls on a core, each of them one turn. The calls take no runtime: what waits for its turn keeps one.
+///
+/// What makes turns writes `take_zero` and `take_merge`, whose value lies in a slot, and has `zero` and `merge` by
+/// them: the checker can't yet prove an impl that takes a prepared value by itself.
 pub trait Turns {
     type Hash: Hash32;
 
@@ -33,7 +36,7 @@ pub trait Turns {
     ghost goes: { Self → Self → Type 0 };
 
     /// Stores a zero state, all of whose cells are listed.
-    fn zero(
+    final fn zero(
         &mut self,
         at: At,
         id: BlockId,
@@ -45,7 +48,27 @@ pub trait Turns {
         ensures turned { Turned worker faults made goes self.old self.new at
             (Event.Zero id tops prepared) (zero_reply result) }
         ensures named { named self.new ≡ named self.old }
-        ensures stored { IfOk result (IsStored prepared) };
+        ensures stored { IfOk result (IsStored prepared) }
+    {
+        let mut slot = Some(prepared);
+        self.take_zero(at, id, tops, &mut slot)
+    }
+
+    /// `zero`, of the value that lies in the slot.
+    fn take_zero(
+        &mut self,
+        at: At,
+        id: BlockId,
+        tops: BlockIds,
+        slot: &mut Option<Prepared<Self::Hash>>,
+    ) -> Result<Stored, ZeroFault>
+        requires full { IsSome slot.old }
+        requires tops { MayName id tops }
+        requires whole { IfSome slot.old (λ p. Fits Self.Hash.digest_of p.root p.cells []) }
+        ensures turned { IfSome slot.old (λ p. Turned worker faults made goes self.old self.new at
+            (Event.Zero id tops p) (zero_reply result)) }
+        ensures named { named self.new ≡ named self.old }
+        ensures stored { IfSome slot.old (λ p. IfOk result (IsStored p)) };
 
     /// Pins a kept block, so that its state stays as it is until the pin ends.
     fn pin(&mut self, at: At, id: BlockId) -> Result<Pinned, PinFault>
@@ -71,7 +94,7 @@ pub trait Turns {
 
     /// Stores a block over the state of a pinned parent, or over those of two where `other` is given, the left half
     /// of the shard first. Ok ends the pins.
-    fn merge(
+    final fn merge(
         &mut self,
         at: At,
         pin: u64,
@@ -88,7 +111,33 @@ pub trait Turns {
         ensures stored { IfOk result (IsStored prepared) }
         ensures no_pin { result ≡ Err MergeFault.NoPin → are_live pin other (made self.old) ≡ false }
         ensures wrong { result ≡ Err MergeFault.WrongPin
-            → IsOfOther Self.Hash.digest_of (named self.old) pin other prepared.old };
+            → IsOfOther Self.Hash.digest_of (named self.old) pin other prepared.old }
+    {
+        let mut slot = Some(prepared);
+        self.take_merge(at, pin, other, id, tops, &mut slot)
+    }
+
+    /// `merge`, of the value that lies in the slot.
+    fn take_merge(
+        &mut self,
+        at: At,
+        pin: u64,
+        other: Option<u64>,
+        id: BlockId,
+        tops: BlockIds,
+        slot: &mut Option<Prepared<Self::Hash>>,
+    ) -> Result<Stored, MergeFault>
+        requires full { IsSome slot.old }
+        requires tops { MayName id tops }
+        requires fits { IfSome slot.old
+            (MayMerge Self.Hash.digest_of (made self.old) (named self.old) pin other) }
+        ensures turned { IfSome slot.old (λ p. Turned worker faults made goes self.old self.new at
+            (Event.Merge pin other id tops p) (merge_reply result)) }
+        ensures named { named self.new ≡ named self.old }
+        ensures stored { IfSome slot.old (λ p. IfOk result (IsStored p)) }
+        ensures no_pin { result ≡ Err MergeFault.NoPin → are_live pin other (made self.old) ≡ false }
+        ensures wrong { result ≡ Err MergeFault.WrongPin → IfSome slot.old
+            (λ p. IsOfOther Self.Hash.digest_of (named self.old) pin other p.old) };
 
     /// Ends a pin. True exactly where its block went with it, which was leaving and had no other pin.
     fn unpin(&mut self, at: At, pin: u64) -> Result<bool, UnpinFault>
