@@ -1,8 +1,8 @@
-use Rattle.std.proofs.Common.{◌≡◌, [], ◌∷◌, ◌++◌, List, sym, ap, subst, ◌∙◌}
+use Rattle.std.proofs.Common.{◌≡◌, [], ◌∷◌, ◌++◌, List, sym, subst, ◌∙◌}
 use Rattle.cd_cell.specs.declared.info.ChildInfo.{ChildInfo}
 use Rattle.cd_cell.specs.declared.new_cell.NewCell.{NewCell}
 use Rattle.cd_cell.specs.Listings.{IsValid, Fits}
-use Rattle.cd_event_tests.proofs.States.{its_cells, empty_is_valid, empty_fits_whole, cells_are}
+use Rattle.cd_event_tests.proofs.States.{empty_is_valid, empty_fits_whole, cells_are}
 use Rattle.cd_event_tests.proofs.tiny.empty_value.Goals as goal
 
 pub new-requires : goal.new-requires
