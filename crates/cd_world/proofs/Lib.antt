@@ -1,3 +1,6 @@
 pub mod Held
 pub mod Puts
 pub mod Plain
+pub mod Replays
+pub mod Searches
+pub mod PinsStay

@@ -1,2 +1,10 @@
 pub mod World
 pub mod Image
+pub mod Standing
+pub mod Changes
+pub mod Machine
+pub mod Following
+pub mod Told
+pub mod Trail
+pub mod Unfolded
+pub mod Pinning

@@ -1,2 +1,15 @@
-//! The model of the store as definitions: worlds, held cells, counts, and the image that a keeper holds.
+//! The model of the store: its plain data with the calls that tell them, and the definitions of worlds, held cells,
+//! counts, images, and the one-thread machine.
 #![tactic(auto)]
+
+mod expiring;
+mod finding;
+mod laws;
+mod limits;
+mod world;
+
+pub use expiring::expired;
+pub use finding::{find_block, is_same_id, pin_row, pins_of};
+pub use laws::{a_pinned_block_stays, a_pinned_tree_stays};
+pub use limits::MOST_PINS;
+pub use world::{PinRow, Rows, Totals, World};
