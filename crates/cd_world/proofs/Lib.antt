@@ -4,3 +4,5 @@ pub mod Plain
 pub mod Replays
 pub mod Searches
 pub mod PinsStay
+pub mod Orders
+pub mod TidyWorlds

@@ -60,7 +60,7 @@ same_id-Decides a b =
 pub same_id-self : (a : BlockId) → same_id a a ≡ true
 same_id-self a = (same_id-Decides a a).1 refl
 
-false_from : (b : Bool) → (b ≡ true → ⊥) → b ≡ false
+pub false_from : (b : Bool) → (b ≡ true → ⊥) → b ≡ false
 false_from true f = absurd (f refl)
 false_from false f = refl
 
@@ -76,7 +76,7 @@ find-placed p d (x ∷ xs) unlike = elim (is_lt (id_cmp d.id x.id)) as (λ b. fi
 pub block_at-other : (w : World) (d : Descr) (q : BlockId) → same_id d.id q ≡ false → block_at (with_block w d) q ≡ block_at w q
 block_at-other w d q unlike = find-placed (λ x. same_id x.id q) d w.blocks unlike
 
-none_of : (w : World) (id : BlockId) → known w id ≡ None → block_at w id ≡ None
+pub none_of : (w : World) (id : BlockId) → known w id ≡ None → block_at w id ≡ None
 none_of w id k = elim (block_at w id) as (λ o. cond (is_some o) (Some refusal.Known) None ≡ None → o ≡ None) [ None ↦ λ e. refl | Some d ↦ λ e. cc ] k
 
 module _ (w : World) (worker pin : ℕ) (row : PinRow) (d : Descr) (h : IsHeld w worker pin row d) where
@@ -127,11 +127,11 @@ module _ (w : World) (worker pin : ℕ) (row : PinRow) (d : Descr) (h : IsHeld w
 still_marked : (m d : Descr) → IsStill d (marked m d)
 still_marked m d = elim (is_expired m d) as (λ b. IsStill d (cond b (record d { leaving = true }) d)) [ true ↦ refl | false ↦ refl ]
 
-or_first : (o p : Option Refusal) → option_or o p ≡ None → o ≡ None
+pub or_first : (o p : Option Refusal) → option_or o p ≡ None → o ≡ None
 or_first None p e = refl
 or_first (Some r) p e = cc
 
-or_second : (o p : Option Refusal) → option_or o p ≡ None → p ≡ None
+pub or_second : (o p : Option Refusal) → option_or o p ≡ None → p ≡ None
 or_second None p e = e
 or_second (Some r) p e = cc
 

@@ -1,9 +1,10 @@
 -- What a search finds in a list that changed.
-use Rattle.std.proofs.Common.{◌≡◌, Bool, true, false, cond, not, List, [], ◌∷◌, ◌++◌, Option, Some, None, map, refl, sym, ap, ◌∙◌}
-use Rattle.std.specs.Prelude.{find, filter, ◌||◌}
+use Rattle.std.proofs.Common.{◌≡◌, Bool, true, false, cond, not, List, [], ◌∷◌, ◌++◌, Option, Some, None, map, refl, sym, ap, ◌∙◌, subst, ⊎_elim, Contains}
+use Rattle.std.specs.Prelude.{find, filter, ◌||◌, IsSome}
 use Rattle.std.specs.List.{list_any}
 use Rattle.std.specs.Option.{option_map, option_or}
 use Rattle.std.proofs.lemmas.Option.{none-some, same_Some}
+use Rattle.cd_cell.proofs.Subtrees.{Contains-first, Contains-later, Contains-cases, Contains-nil}
 
 module _ {A : Type 0} (p : A → Bool) where
   pub find-passes : (xs : List A) (x : A) → find p xs ≡ Some x → p x ≡ true
@@ -39,3 +40,20 @@ module _ {A : Type 0} (p : A → Bool) where
     | true ↦ refl
     | false ↦ find-map f same ys
   ])
+
+  pub find-contains : (xs : List A) (x : A) → find p xs ≡ Some x → Contains xs x
+  find-contains [] x e = absurd (none-some x e)
+  find-contains (y ∷ ys) x e = by (find-contains ys x) (p y) e
+    where
+      by : (find p ys ≡ Some x → Contains ys x) → (b : Bool) → cond b (Some y) (find p ys) ≡ Some x → Contains (y ∷ ys) x
+      by rest true s = subst (Contains (y ∷ ys)) (same_Some y x s) (Contains-first y ys)
+      by rest false s = Contains-later y ys x (rest s)
+
+  pub find-some : (xs : List A) (x : A) → Contains xs x → p x ≡ true → IsSome (find p xs)
+  find-some [] x h pass = absurd (Contains-nil x h)
+  find-some (y ∷ ys) x h pass = by (λ later. find-some ys x later pass) (p y) refl
+    where
+      by : (Contains ys x → IsSome (find p ys)) → (b : Bool) → p y ≡ b → IsSome (cond b (Some y) (find p ys))
+      by rest true e = refl
+      by rest false e =
+          ⊎_elim (λ same. absurd (let no : false ≡ true = sym e ∙ ap p same ∙ pass in cc)) rest (Contains-cases y ys x h)

@@ -7,4 +7,5 @@ pub mod Following
 pub mod Told
 pub mod Trail
 pub mod Unfolded
+pub mod Journals
 pub mod Pinning

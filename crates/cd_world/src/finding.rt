@@ -1,7 +1,7 @@
-ghost use Rattle.std.specs.Prelude.{◌≡◌, ◌↔◌, ◌-◌, ◌^◌, min, IsTrue, IsNone, All};
+ghost use Rattle.std.specs.Prelude.{◌≡◌, ◌↔◌, ◌-◌, ◌^◌, min, IsTrue};
 ghost use Rattle.std.specs.Option.{option_copied};
 ghost use Rattle.cd_world.specs.Standing as spec;
-ghost use Rattle.cd_world.specs.Standing.{same_id, block_at, pin_at};
+ghost use Rattle.cd_world.specs.Standing.{same_id, block_at, kept_at, pin_at};
 
 use crate::world::{PinRow, World};
 use cd_block::{BlockId, Descr};
@@ -27,6 +27,16 @@ pub fn find_block<'a>(world: &'a World, id: &BlockId) -> Option<&'a Descr>
         .as_slice()
         .iter()
         .find(|d| is_same_id(&d.id, id))
+}
+
+/// The block with this id, where it isn't leaving.
+pub fn find_kept<'a>(world: &'a World, id: &BlockId) -> Option<&'a Descr>
+    ensures { option_copied result ≡ kept_at world.now id.now }
+{
+    match find_block(world, id) {
+        Some(block) if !block.leaving => Some(block),
+        _ => None,
+    }
 }
 
 /// The pin with this number, where it is this worker's.

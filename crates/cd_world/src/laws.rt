@@ -1,7 +1,28 @@
 //! What holds of the machine, as contracts of functions that do nothing.
+ghost use Rattle.cd_world.specs.Journals.{ReplayGoesOn, FollowingGoesOn, ToldReplayGoesOn, ToldFollowingGoesOn, TrailGoesOn, WorldIsReplayed, ToldFollow, StaysTidy};
 ghost use Rattle.cd_world.specs.Pinning.{PinStays, TreeStays};
 
 use cd_cell::Hash32;
+
+/// Two journals, one after the other, are one journal: so a call that adds an entry takes its world on by a step.
+pub fn a_journal_goes_on<H: Hash32>()
+    ensures replay { ReplayGoesOn H }
+    ensures follows { FollowingGoesOn H.digest_of H }
+    ensures told_replay { ToldReplayGoesOn H.digest_of H }
+    ensures told_follows { ToldFollowingGoesOn H.digest_of H }
+    ensures trail { TrailGoesOn H.digest_of H }
+{}
+
+/// The world with its trees is the world: it moves alike, and what follows the one follows the other.
+pub fn trees_change_no_answer_of_the_world<H: Hash32>()
+    ensures world { WorldIsReplayed H.digest_of H }
+    ensures follow { ToldFollow H.digest_of H }
+{}
+
+/// Whatever follows, a tidy world stays tidy.
+pub fn a_tidy_world_stays_tidy<H: Hash32>()
+    ensures { StaysTidy H.digest_of H }
+{}
 
 /// A block with a live pin stays, whatever follows but the end of that pin.
 pub fn a_pinned_block_stays<H: Hash32>()
