@@ -6,3 +6,5 @@ pub mod Searches
 pub mod PinsStay
 pub mod Orders
 pub mod TidyWorlds
+pub mod ShownInfos
+pub mod EqualImages

@@ -8,4 +8,5 @@ pub mod Told
 pub mod Trail
 pub mod Unfolded
 pub mod Journals
+pub mod OneImage
 pub mod Pinning

@@ -1,5 +1,6 @@
 //! What holds of the machine, as contracts of functions that do nothing.
 ghost use Rattle.cd_world.specs.Journals.{ReplayGoesOn, FollowingGoesOn, ToldReplayGoesOn, ToldFollowingGoesOn, TrailGoesOn, WorldIsReplayed, ToldFollow, StaysTidy};
+ghost use Rattle.cd_world.specs.OneImage.{OneImage, OneWorld};
 ghost use Rattle.cd_world.specs.Pinning.{PinStays, TreeStays};
 
 use cd_cell::Hash32;
@@ -32,4 +33,10 @@ pub fn a_pinned_block_stays<H: Hash32>()
 /// And its tree never changes.
 pub fn a_pinned_tree_stays<H: Hash32>()
     ensures { TreeStays H.digest_of H }
+{}
+
+/// What a keeper holds tells the blocks with their trees: no two sound worlds that differ in them have one image.
+pub fn an_image_has_one_world<H: Hash32>()
+    ensures image { OneImage H.digest_of }
+    ensures contents { OneWorld H.digest_of }
 {}
