@@ -8,3 +8,4 @@ pub mod Orders
 pub mod TidyWorlds
 pub mod ShownInfos
 pub mod EqualImages
+pub mod FitsStays

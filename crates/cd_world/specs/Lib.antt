@@ -10,3 +10,4 @@ pub mod Unfolded
 pub mod Journals
 pub mod OneImage
 pub mod Pinning
+pub mod Fitting

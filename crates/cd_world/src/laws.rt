@@ -1,4 +1,5 @@
 //! What holds of the machine, as contracts of functions that do nothing.
+ghost use Rattle.cd_world.specs.Fitting.{FitsStay};
 ghost use Rattle.cd_world.specs.Journals.{ReplayGoesOn, FollowingGoesOn, ToldReplayGoesOn, ToldFollowingGoesOn, TrailGoesOn, WorldIsReplayed, ToldFollow, StaysTidy};
 ghost use Rattle.cd_world.specs.OneImage.{OneImage, OneWorld};
 ghost use Rattle.cd_world.specs.Pinning.{PinStays, TreeStays};
@@ -39,4 +40,9 @@ pub fn a_pinned_tree_stays<H: Hash32>()
 pub fn an_image_has_one_world<H: Hash32>()
     ensures image { OneImage H.digest_of }
     ensures contents { OneWorld H.digest_of }
+{}
+
+/// A value that was prepared over the trees of live pins fits over them as long as they are live.
+pub fn a_fitting_value_still_fits<H: Hash32>()
+    ensures { FitsStay H.digest_of H }
 {}
