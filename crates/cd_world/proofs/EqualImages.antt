@@ -79,7 +79,7 @@ one_id (x ∷ xs) up a b in-a in-b same = by (one_id xs up.1 a b) (Contains-case
     by rest (inr p) (inr q) = rest p q same
 
 module _ (H : List ℕ → Hash256) where
-  abbrev cells_of : ToldWorld → List Tree
+  abbrev pub cells_of : ToldWorld → List Tree
   cells_of t = flat_map subtrees (states_of t)
 
   pooled : (t : ToldWorld) (ds : List Descr) → flat_map (λ (b : Block). subtrees b.state) (map (block_of t) ds) ≡ flat_map subtrees (map (λ d. t.state d.id) ds)
@@ -87,7 +87,7 @@ module _ (H : List ℕ → Hash256) where
   pooled t (d ∷ ds) = ap (λ rest. subtrees (t.state d.id) ++ rest) (pooled t ds)
 
   -- the held cells by look-ups
-  get-held : (t : ToldWorld) (q : List ℕ) → get (held H t) q ≡ find (slice_cmp nat_cmp) q (keyed (rep_bytes H) (cells_of t))
+  pub get-held : (t : ToldWorld) (q : List ℕ) → get (held H t) q ≡ find (slice_cmp nat_cmp) q (keyed (rep_bytes H) (cells_of t))
   get-held t q =
       get-from_entries nat_list_cmp_total (keyed (rep_bytes H) (flat_map (λ (b : Block). subtrees b.state) (map (block_of t) t.world.blocks))) q
       ∙ ap (λ cells. find (slice_cmp nat_cmp) q (keyed (rep_bytes H) cells)) (pooled t t.world.blocks)

@@ -9,3 +9,6 @@ pub mod TidyWorlds
 pub mod ShownInfos
 pub mod EqualImages
 pub mod FitsStays
+pub mod MadeTrees
+pub mod CountLaws
+pub mod SoundWorlds

@@ -18,10 +18,10 @@ use Rattle.cd_cell.proofs.Subtrees.{Contains-first, Contains-later, Contains-cas
 use Rattle.cd_world.specs.Standing.{IsBeforeBlock}
 use Rattle.cd_world.specs.Changes.{placed}
 
-≤_add : (n a b : ℕ) → a ≤ b → n + a ≤ n + b
+pub ≤_add : (n a b : ℕ) → a ≤ b → n + a ≤ n + b
 ≤_add n a b h = omega arith
 
-≤_grow : (n a b : ℕ) → a ≤ b → a ≤ n + b
+pub ≤_grow : (n a b : ℕ) → a ≤ b → a ≤ n + b
 ≤_grow n a b h = omega arith
 
 -- ---- what a filter keeps

@@ -11,3 +11,4 @@ pub mod Journals
 pub mod OneImage
 pub mod Pinning
 pub mod Fitting
+pub mod Soundness

@@ -3,6 +3,7 @@ ghost use Rattle.cd_world.specs.Fitting.{FitsStay};
 ghost use Rattle.cd_world.specs.Journals.{ReplayGoesOn, FollowingGoesOn, ToldReplayGoesOn, ToldFollowingGoesOn, TrailGoesOn, WorldIsReplayed, ToldFollow, StaysTidy};
 ghost use Rattle.cd_world.specs.OneImage.{OneImage, OneWorld};
 ghost use Rattle.cd_world.specs.Pinning.{PinStays, TreeStays};
+ghost use Rattle.cd_world.specs.Soundness.{StaysSound};
 
 use cd_cell::Hash32;
 
@@ -45,4 +46,9 @@ pub fn an_image_has_one_world<H: Hash32>()
 /// A value that was prepared over the trees of live pins fits over them as long as they are live.
 pub fn a_fitting_value_still_fits<H: Hash32>()
     ensures { FitsStay H.digest_of H }
+{}
+
+/// Where each event is asked for as the calls ask it, a sound world stays sound.
+pub fn a_sound_world_stays_sound<H: Hash32>()
+    ensures { StaysSound H.digest_of H }
 {}
