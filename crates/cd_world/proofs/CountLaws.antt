@@ -1,7 +1,7 @@
 -- Counts: of a hash that isn't held, and of a world that has some of another's blocks.
-use Rattle.std.proofs.Common.{◌≡◌, ℕ, zero, suc, ◌+◌, ◌<◌, ◌≤◌, Bool, true, false, cond, List, [], ◌∷◌, ◌++◌, map, flat_map, Option, Some, None, Contains, Less, Equal, Greater, Ordering, refl, sym, ap, ap₂, ◌∙◌, subst, inl, inr, ⊎_elim, ◌⊎◌, arith}
-use Rattle.std.specs.Prelude.{is_some, IsSome, ◌&&◌}
-use Rattle.std.specs.List.{count_by, sum_by, filter}
+use Rattle.std.proofs.Common.{◌≡◌, ℕ, ◌+◌, ◌≤◌, Bool, true, false, cond, List, [], ◌∷◌, map, Some, None, Contains, Less, Equal, Greater, Ordering, refl, sym, ap, ap₂, ◌∙◌, subst, inl, inr, ⊎_elim, ◌⊎◌, arith}
+use Rattle.std.specs.Prelude.{is_some}
+use Rattle.std.specs.List.{count_by, sum_by}
 use Rattle.std.specs.Ordering.{nat_cmp, eq_by_cmp, is_lt}
 use Rattle.std.specs.Cmp.{tied_itself}
 use Rattle.std.specs.Cmp.Lexicographic.{slice_cmp, nat_list_cmp_total, bytes_decides}
@@ -11,12 +11,11 @@ use Rattle.std.specs.FinMap.Entries.{below_all}
 use Rattle.std.proofs.lemmas.Bool.{and_parts, true≢false}
 use Rattle.std.proofs.lemmas.Option.{none-some, same_Some}
 use Rattle.std.proofs.lemmas.List.Sums.{sum_by-cons}
-use lib.Dec.{T}
 use Rattle.cd_base.specs.declared.hash.Hash256.{Hash256}
 use Rattle.cd_block.specs.declared.description.Descr.{Descr}
-use Rattle.cd_cell.specs.Tree.{Tree, children, subtrees, rep_of}
+use Rattle.cd_cell.specs.Tree.{Tree, children}
 use Rattle.cd_cell.specs.Export.{AreClashFree}
-use Rattle.cd_cell.proofs.Subtrees.{Contains-first, Contains-later, Contains-cases, Contains-nil, Contains-map, Contains-mapped, flat_map-cases, flat_map-listed, subtree-itself, child-is-subtree, flat_map-subtree}
+use Rattle.cd_cell.proofs.Subtrees.{Contains-first, Contains-later, Contains-cases, Contains-nil, Contains-map, Contains-mapped, flat_map-listed, subtree-itself, child-is-subtree, flat_map-subtree}
 use Rattle.cd_world.specs.World.{Block, has_hash, places_of, CellMap}
 use Rattle.cd_world.specs.Told.{ToldWorld, block_of, states_of, held, count}
 use Rattle.cd_world.proofs.Held.{same_bytes, bytes_tie, found_for, rep_bytes}

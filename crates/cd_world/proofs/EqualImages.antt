@@ -1,10 +1,9 @@
 -- Sound worlds with equal images have equal blocks, trees included.
-use Rattle.std.proofs.Common.{◌≡◌, ℕ, ◌+◌, ◌<◌, ◌≤◌, Bool, true, false, cond, List, [], ◌∷◌, ◌++◌, map, flat_map, length, get_or, Option, Some, None, Contains, All, Less, refl, sym, ap, ◌∙◌, subst, inl, inr, ⊎_elim, ◌⊎◌, arith}
+use Rattle.std.proofs.Common.{◌≡◌, ℕ, ◌+◌, ◌≤◌, Bool, true, false, cond, List, [], ◌∷◌, ◌++◌, map, flat_map, length, get_or, Option, Some, None, Contains, All, Less, refl, sym, ap, ◌∙◌, subst, inl, inr, ⊎_elim, ◌⊎◌, arith}
 use Rattle.std.specs.Prelude.{IsSome, is_some}
 use Rattle.std.specs.Option.{option_map}
 use Rattle.std.specs.List.{count_by, sum_by}
 use Rattle.std.specs.Ordering.{on, nat_cmp, eq_by_cmp}
-use Rattle.std.specs.Str.{bytes_eq}
 use Rattle.std.specs.Cmp.{on_total}
 use Rattle.std.specs.Cmp.Lexicographic.{slice_cmp, nat_list_cmp_total, bytes_decides}
 use Rattle.std.specs.FinMap as finite
@@ -20,21 +19,19 @@ use Rattle.cd_block.specs.Block.{key_of, id_cmp}
 use Rattle.cd_block.specs.Description.{descr_text}
 use Rattle.cd_block.proofs.Keys.{key_of_injective}
 use Rattle.cd_block.proofs.Descriptions.{descr_text_injective}
-use Rattle.cd_cell.specs.FaceView.{FaceView}
 use Rattle.cd_cell.specs.Steady.{IsSteady}
 use Rattle.cd_cell.specs.Tree.{Tree, cell, children, subtrees, info_of, infos_of, face_of, rep_of, IsWellFormed, AreWellFormed, Trees, no_trees, tree_and}
 use Rattle.cd_cell.specs.Export.{AreClashFree}
-use Rattle.cd_cell.proofs.Subtrees.{Contains-first, Contains-later, Contains-cases, Contains-nil, Contains-map, Contains-mapped, flat_map-cases, flat_map-listed, same_subtrees, well_formed-subtree, IsGoodFace-face_of, subtree-itself, subtree-parent, child-is-subtree}
+use Rattle.cd_cell.proofs.Subtrees.{Contains-first, Contains-later, Contains-cases, Contains-nil, Contains-map, Contains-mapped, flat_map-cases, flat_map-listed, same_subtrees, well_formed-subtree, IsGoodFace-face_of, subtree-itself, subtree-parent}
 use Rattle.cd_cell.proofs.Heights.{IsSteady-infos_of}
 use Rattle.cd_cell.proofs.Distinct.{same-rising, rises-from_AllPairs}
 use Rattle.cd_keeper.specs.Contents.{Contents}
-use Rattle.cd_record.specs.declared.limits.TheConstants.{GREATEST_COUNT}
 use Rattle.cd_record.specs.declared.record.Record.{Record}
 use Rattle.cd_record.specs.Records.{IsRecord, IsInfo}
 use Rattle.cd_record.specs.RecordText.{record_text}
 use Rattle.cd_record.proofs.RecordLaws.{text-injective}
-use Rattle.cd_world.specs.World.{Block, has_hash, places_of, held_of, held_cells, count_of, CellMap}
-use Rattle.cd_world.specs.Image.{descr_of, descr_entry, image_of, IsContentsOf}
+use Rattle.cd_world.specs.World.{Block, has_hash, places_of}
+use Rattle.cd_world.specs.Image.{descr_of, descr_entry, IsContentsOf}
 use Rattle.cd_world.specs.Standing.{IsBeforeBlock}
 use Rattle.cd_world.specs.Told.{ToldWorld, block_of, shown, states_of, held, count, image, IsSoundBlock, IsSound}
 use Rattle.cd_world.specs.OneImage.{HasBlocksOf}

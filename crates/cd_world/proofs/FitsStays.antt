@@ -3,7 +3,6 @@ use Rattle.std.proofs.Common.{◌≡◌, ℕ, List, [], ◌∷◌, refl, sym, ap
 use Rattle.cd_base.specs.declared.hash.Hash256.{Hash256}
 use Rattle.cd_cell.specs.Tree.{Tree}
 use Rattle.cd_cell.specs.Listings.{Fits}
-use Rattle.cd_cell.specs.PreparedView.{PreparedView}
 use Rattle.cd_event.specs.declared.entry.Entry.{Entry}
 use Rattle.cd_world.specs.declared.world.PinRow.{PinRow}
 use Rattle.cd_world.specs.Following.{AllFollow}

@@ -11,4 +11,5 @@ pub mod EqualImages
 pub mod FitsStays
 pub mod MadeTrees
 pub mod CountLaws
+pub mod BesideHeld
 pub mod SoundWorlds

@@ -1,6 +1,6 @@
 -- The tree that a valid value stands for over trees that it fits: its root shows what the value says, it is well-formed,
 -- and its cells are listed or old ones.
-use Rattle.std.proofs.Common.{◌≡◌, ℕ, zero, suc, ◌+◌, ◌<◌, ◌≤◌, Bool, true, false, List, [], ◌∷◌, ◌++◌, length, get_or, map, flat_map, Option, Some, None, Contains, All, AllPairs, Less, Equal, Greater, Ordering, refl, sym, ap, ap₂, ◌∙◌, subst, inl, inr, ⊎_elim, ◌⊎◌, arith}
+use Rattle.std.proofs.Common.{◌≡◌, ℕ, ◌<◌, ◌≤◌, List, [], ◌∷◌, ◌++◌, map, Option, Some, None, Contains, All, Less, Equal, Greater, Ordering, refl, sym, ap, ap₂, ◌∙◌, subst, inl, inr, ⊎_elim, ◌⊎◌, arith}
 use Rattle.std.specs.Prelude.{find, IsSome, is_some}
 use Rattle.std.specs.Option.{unwrap_or}
 use Rattle.std.specs.Ordering.{nat_cmp, ordering_then}
@@ -13,17 +13,17 @@ use Rattle.cd_cell.specs.declared.info.ChildInfo.{ChildInfo}
 use Rattle.cd_cell.specs.declared.new_cell.NewCell.{NewCell}
 use Rattle.cd_cell.specs.FaceView.{FaceView}
 use Rattle.cd_cell.specs.Infos.{height_of_info}
-use Rattle.cd_cell.specs.Levels.{info_of_face, height_of_face, rep_of_face}
+use Rattle.cd_cell.specs.Levels.{info_of_face, height_of_face}
 use Rattle.cd_cell.specs.Equality.{same_info, same_info-Decides}
 use Rattle.cd_cell.specs.GoodFace.{IsGoodFace}
 use Rattle.cd_cell.specs.Steady.{IsSteady}
 use Rattle.cd_cell.specs.Unfolding.{no_tree}
-use Rattle.cd_cell.specs.Tree.{Tree, cell, trees_of, list_of, children, subtrees, info_of, infos_of, face_of, IsWellFormed}
-use Rattle.cd_cell.specs.Listings.{no_cell, listed_at, listing_cmp, old_cells, info_of_new, known_infos, tree_with, listed_trees, tree_of, IsValid, Fits}
-use Rattle.cd_cell.proofs.Subtrees.{Contains-first, Contains-later, Contains-cases, Contains-nil, Contains-map, Contains-mapped, list_of-trees_of, subtrees-cases, subtree-itself, flat_map-subtree, infos_of-list_of, IsWellFormed-from, info_of-face_of}
+use Rattle.cd_cell.specs.Tree.{Tree, cell, trees_of, children, subtrees, info_of, infos_of, face_of, IsWellFormed}
+use Rattle.cd_cell.specs.Listings.{no_cell, listing_cmp, old_cells, info_of_new, known_infos, tree_with, listed_trees, tree_of, IsValid, Fits}
+use Rattle.cd_cell.proofs.Subtrees.{Contains-first, Contains-later, Contains-cases, Contains-nil, Contains-map, Contains-mapped, list_of-trees_of, subtrees-cases, flat_map-subtree, infos_of-list_of, IsWellFormed-from, info_of-face_of}
 use Rattle.cd_cell.proofs.Heights.{IsSteady-info_of_face, IsSteady-info_of, height_of_face-kid}
 use Rattle.cd_world.proofs.Searches.{find-passes, find-contains, find-some}
-use Rattle.cd_world.proofs.Orders.{InOrder, order_from_AllPairs, All-from_Contains}
+use Rattle.cd_world.proofs.Orders.{InOrder, order_from_AllPairs}
 
 not_more : (a b : ℕ) (o p : Ordering) → nat_cmp a b ≡ o → ordering_then o p ≡ Less → a ≤ b
 not_more a b Less p is e = let less = ranked a b Less (sym is) in omega (arith, less)

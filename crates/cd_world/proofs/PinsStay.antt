@@ -1,32 +1,29 @@
 -- A block with a live pin stays, and its tree never changes.
-use Rattle.std.proofs.Common.{◌≡◌, ℕ, Bool, true, false, cond, not, List, [], ◌∷◌, ◌++◌, Option, Some, None, refl, sym, ap, ◌∙◌, subst, inl, inr, ◌⊎◌}
-use Rattle.std.specs.Prelude.{find, filter, map, is_some, is_none, nat_eq, ◌&&◌, ◌||◌, if◌then◌else◌}
+use Rattle.std.proofs.Common.{◌≡◌, ℕ, Bool, true, false, cond, not, List, [], ◌∷◌, Option, Some, None, refl, sym, ap, ◌∙◌, subst, inl, inr}
+use Rattle.std.specs.Prelude.{find, filter, is_some, nat_eq, ◌&&◌, ◌||◌, if◌then◌else◌}
 use Rattle.std.specs.Option.{option_map, option_or, option_to_list, unwrap_or}
 use Rattle.std.specs.List.{list_any}
-use Rattle.std.specs.Ordering.{int_eq, is_lt}
-use Rattle.std.specs.Str.{bytes_eq}
+use Rattle.std.specs.Ordering.{is_lt}
 use Rattle.std.specs.Bool.{Decides}
 use Rattle.std.specs.Cmp.Lexicographic.{bytes_decides}
-use Rattle.std.proofs.lemmas.Bool.{and_parts, and_from, true≢false, or_left, or_right}
+use Rattle.std.proofs.lemmas.Bool.{and_parts, and_from, true≢false}
 use Rattle.std.proofs.lemmas.Bool.Decides.{Decides-eqb, Decides-int_eq}
 use Rattle.std.proofs.lemmas.List.Folds.{find-append}
 use Rattle.std.proofs.lemmas.Option.{none-some, same_Some}
 use Rattle.cd_base.specs.declared.hash.Hash256.{Hash256}
-use Rattle.cd_block.specs.declared.shard.ShardId.{ShardId}
 use Rattle.cd_block.specs.declared.block.BlockId.{BlockId}
 use Rattle.cd_block.specs.declared.description.Descr.{Descr}
 use Rattle.cd_block.specs.Block.{id_cmp}
 use Rattle.cd_event.specs.declared.event.Event.{Event}
 use Rattle.cd_event.specs.declared.event.Event.TheVariants.{Zero, Pin, Look, Merge, Unpin, Expire}
 use Rattle.cd_event.specs.declared.entry.Entry.{Entry}
-use Rattle.cd_event.specs.declared.entry.Reply.{Reply}
 use Rattle.cd_event.specs.declared.refusal.Refusal.{Refusal}
 use Rattle.cd_event.specs.declared.refusal.Refusal.TheVariants as refusal
 use Rattle.cd_world.specs.declared.world.World.{World}
 use Rattle.cd_world.specs.declared.world.PinRow.{PinRow}
-use Rattle.cd_world.specs.Standing.{same_shard, same_id, has_id, block_at, kept_at, is_pin, pin_at, is_pinned, names_block, is_expired}
-use Rattle.cd_world.specs.Changes.{placed, with_block, stored, with_pin, row_of, pins_without, goes_with, without_pin, without_pins, goes_at_once, marked, without_expired}
-use Rattle.cd_world.specs.Machine.{two_rows, rows_at, merge_rows, blocks_of, known, refusal_of, unmergeable, unless_expired, moved, is_refused, after, replay, answered, reply_of}
+use Rattle.cd_world.specs.Standing.{same_id, block_at, kept_at, is_pin, pin_at, is_pinned, is_expired}
+use Rattle.cd_world.specs.Changes.{placed, with_block, stored, row_of, pins_without, goes_with, without_pin, without_pins, goes_at_once, marked, without_expired}
+use Rattle.cd_world.specs.Machine.{two_rows, rows_at, blocks_of, known, refusal_of, unmergeable, unless_expired, moved, is_refused, after, replay, answered, reply_of}
 use Rattle.cd_world.specs.Following.{Follows, AllFollow}
 use Rattle.cd_world.specs.Told.{ToldWorld, with_state, stated, told_after, told_replay}
 use Rattle.cd_world.specs.Pinning.{IsStill, ends, ends_pin, NoneEnds, IsHeld}

@@ -1,5 +1,5 @@
 -- What a well-formed cell shows has hashes of 32 bytes and depths of two.
-use Rattle.std.proofs.Common.{◌≡◌, ℕ, zero, suc, ◌+◌, ◌*◌, ◌<◌, ◌≤◌, ◌^◌, Bool, true, false, List, length, take, drop, Some, refl, sym, ap, ◌∙◌, subst, ⊎_elim, arith, length-take-le, length-drop}
+use Rattle.std.proofs.Common.{◌≡◌, ℕ, zero, suc, ◌+◌, ◌*◌, ◌<◌, ◌≤◌, ◌^◌, Bool, true, false, List, length, drop, Some, refl, sym, ap, subst, ⊎_elim, arith, length-take-le, length-drop}
 use Rattle.std.specs.Prelude.{nat_lt, if◌then◌else◌}
 use Rattle.std.proofs.lemmas.Bool.{ltb-true}
 use Rattle.cd_base.specs.declared.hash.Hash256.{Hash256}

@@ -1,35 +1,29 @@
 -- A journal that follows leads from a sound world to a sound world.
-use Rattle.std.proofs.Common.{◌≡◌, ℕ, zero, suc, ◌+◌, ◌<◌, ◌≤◌, Bool, true, false, cond, not, List, [], ◌∷◌, ◌++◌, map, flat_map, length, get_or, Option, Some, None, Contains, All, refl, sym, ap, ap₂, ◌∙◌, subst, inl, inr, ⊎_elim, ◌⊎◌, arith}
+use Rattle.std.proofs.Common.{◌≡◌, ℕ, ◌≤◌, Bool, true, false, cond, not, List, [], ◌∷◌, map, length, Option, Some, None, Contains, refl, sym, ap, ◌∙◌, subst, inl, inr, ⊎_elim, ◌⊎◌, arith, flat_map}
 use Rattle.std.specs.Prelude as Prelude
 use Rattle.std.specs.Prelude.{is_some, IsSome, nat_lt, nat_eq, ◌&&◌, if◌then◌else◌}
 use Rattle.std.specs.List.{count_by, filter, AllByRecursion}
-use Rattle.std.specs.Option.{option_map, option_or, option_and_then, option_to_list, unwrap_or}
-use Rattle.std.specs.Ordering.{is_lt}
-use Rattle.std.specs.FinMap as finite
+use Rattle.std.specs.Option.{option_map, option_or, option_to_list, unwrap_or}
 use Rattle.std.specs.FinMap.{get, entries}
 use Rattle.std.proofs.lemmas.Bool.{true≢false, ltb-false}
 use Rattle.std.proofs.lemmas.Option.{none-some, same_Some}
-use Rattle.std.proofs.lemmas.List.{get_or_default, length-map}
-use Rattle.std.proofs.lemmas.List.Elements.{All-contains, All-nil, recursion_from_All, Contains-get_or}
+use Rattle.std.proofs.lemmas.List.{length-map}
+use Rattle.std.proofs.lemmas.List.Elements.{All-contains, All-nil, recursion_from_All}
 use Rattle.cd_base.specs.declared.hash.Hash256.{Hash256}
 use Rattle.cd_block.specs.declared.block.BlockId.{BlockId}
 use Rattle.cd_block.specs.declared.description.Descr.{Descr}
 use Rattle.cd_block.specs.Block.{IsBlockId}
-use Rattle.cd_block.specs.Description.{IsDescrFit, IsDescr}
 use Rattle.cd_block.specs.Lineage.{lineage_fault}
-use Rattle.cd_block.specs.declared.ancestry.LineageFault.{LineageFault}
 use Rattle.cd_cell.specs.declared.info.ChildInfo.{ChildInfo}
 use Rattle.cd_cell.specs.declared.new_cell.NewCell.{NewCell}
 use Rattle.cd_cell.specs.FaceView.{FaceView}
 use Rattle.cd_cell.specs.Infos.{rep_of_info, height_of_info}
-use Rattle.cd_cell.specs.Levels.{rep_of_face}
-use Rattle.cd_cell.specs.Equality.{same_hash, same_hash-Decides, same_face, same_face-Decides}
+use Rattle.cd_cell.specs.Equality.{same_hash, same_hash-Decides}
 use Rattle.cd_cell.specs.Tree.{Tree, subtrees, face_of, info_of, rep_of, mask_of, height_of, IsWellFormed}
-use Rattle.cd_cell.specs.Export.{hash_cmp, AreClashFree}
-use Rattle.cd_cell.specs.Listings.{no_cell, listed_at, old_cells, IsValid, Fits}
+use Rattle.cd_cell.specs.Export.{AreClashFree}
+use Rattle.cd_cell.specs.Listings.{old_cells, Fits}
 use Rattle.cd_cell.specs.PreparedView.{PreparedView}
-use Rattle.cd_cell.proofs.Subtrees.{Contains-first, Contains-later, Contains-cases, Contains-nil, Contains-map, Contains-mapped, flat_map-cases, flat_map-listed, well_formed-subtree}
-use Rattle.cd_cell.proofs.ListedTrees.{rep_of-face_of}
+use Rattle.cd_cell.proofs.Subtrees.{Contains-first, Contains-later, Contains-cases, Contains-nil, Contains-map, Contains-mapped, flat_map-cases, flat_map-listed, well_formed-subtree, same_subtrees, subtree-itself}
 use Rattle.cd_record.specs.declared.limits.TheConstants.{GREATEST_COUNT}
 use Rattle.cd_event.specs.declared.event.Event.{Event}
 use Rattle.cd_event.specs.declared.event.Event.TheVariants.{Zero, Pin, Look, Merge, Unpin, Expire}
@@ -40,18 +34,20 @@ use Rattle.cd_world.specs.declared.world.World.{World}
 use Rattle.cd_world.specs.declared.world.PinRow.{PinRow}
 use Rattle.cd_world.specs.World.{has_hash}
 use Rattle.cd_world.specs.Standing.{same_id, block_at, kept_at, pin_at, is_expired, IsTidy}
-use Rattle.cd_world.specs.Changes.{placed, with_block, stored, without_pin, without_pins, goes_with, goes_at_once, marked, without_expired}
-use Rattle.cd_world.specs.Machine.{rows_at, two_rows, merge_rows, blocks_of, old_info, is_over, refused_if, unrelated, other_root, unmergeable, refusal_of, answered, reply_of, unless_expired, moved, is_refused, after}
-use Rattle.cd_world.specs.Following.{IsFailed, Follows}
-use Rattle.cd_world.specs.Told.{ToldWorld, states_of, with_state, held, count, seen, IsSoundBlock, IsSound, made, with_stored, lesser, least, is_other, clash_with, first_clash, first_overflow, storing_refusal, cell_refusal, stated, told_after, told_replay, FollowsTold, AllFollowTold}
-use Rattle.cd_world.specs.Soundness.{IsStorable, IsAsked, AllAsked, StaysSound}
-use Rattle.cd_world.proofs.Searches.{find-passes, find-contains, find-some}
-use Rattle.cd_world.proofs.Orders.{Contains-filter, Contains-filtered, count_by-filter, All-from_Contains, Contains-placed, Contains-placed_new, Contains-placed_old}
+use Rattle.cd_world.specs.Changes.{with_block, stored, without_pin, without_pins, goes_with, goes_at_once, marked, without_expired}
+use Rattle.cd_world.specs.Machine.{rows_at, two_rows, blocks_of, refused_if, unrelated, other_root, unmergeable, refusal_of, answered, reply_of, unless_expired, moved, is_refused}
+use Rattle.cd_world.specs.Following.{Follows}
+use Rattle.cd_world.specs.Told.{ToldWorld, states_of, with_state, held, count, IsSoundBlock, IsSound, made, with_stored, first_clash, first_overflow, storing_refusal, cell_refusal, stated, told_after, FollowsTold}
+use Rattle.cd_world.specs.Preparing.{IsCellOf, StaysClear, StandsForPrepared}
+use Rattle.cd_world.specs.Soundness.{IsStorable, IsAsked, StaysSound}
+use Rattle.cd_world.proofs.Searches.{find-contains, find-some}
+use Rattle.cd_world.proofs.Orders.{Contains-filter, count_by-filter, All-from_Contains, Contains-placed}
 use Rattle.cd_world.proofs.PinsStay.{same_id-Decides, same_id-self, false_from, none_of, or_first, or_second, not_refused}
-use Rattle.cd_world.proofs.TidyWorlds.{IsThere, found-there, there-pinned, id-marked, tidy_after}
+use Rattle.cd_world.proofs.TidyWorlds.{IsThere, found-there, there-pinned, id-marked, tidy_after, there-found}
 use Rattle.cd_world.proofs.Replays.{follows-told}
-use Rattle.cd_world.proofs.EqualImages.{cells_of, cell_is_held}
+use Rattle.cd_world.proofs.EqualImages.{cells_of}
 use Rattle.cd_world.proofs.CountLaws.{sum_by-map, sum_by-same, entry-got, count-not_held, count-fewer}
+use Rattle.cd_world.proofs.BesideHeld.{known-clear, beside-clear}
 use Rattle.cd_world.proofs.MadeTrees.{made_cells, are-made, info-made, good-made, cell-made}
 
 module _ (H : List ℕ → Hash256) where
@@ -156,46 +152,6 @@ module _ (H : List ℕ → Hash256) where
 
   -- ---- a state is stored
 
-  least-contains : (cs : List NewCell) (x : NewCell) → least H cs ≡ Some x → Contains cs x
-  least-contains [] x e = absurd (none-some x e)
-  least-contains (c ∷ cs) x e = by (least-contains cs) (least H cs) refl (same_Some _ _ e)
-    where
-      by : ((y : NewCell) → least H cs ≡ Some y → Contains cs y) → (o : Option NewCell) → least H cs ≡ o → lesser H c o ≡ x → Contains (c ∷ cs) x
-      by rest None at is = subst (Contains (c ∷ cs)) is (Contains-first c cs)
-      by rest (Some d) at is = pick (is_lt (hash_cmp d.hash c.hash)) is
-        where
-          pick : (b : Bool) → cond b d c ≡ x → Contains (c ∷ cs) x
-          pick true same = subst (Contains (c ∷ cs)) same (Contains-later c cs d (rest d at))
-          pick false same = subst (Contains (c ∷ cs)) same (Contains-first c cs)
-
-  -- where no clash is found no other face is held
-  no-clash : (t : ToldWorld) (cells : List NewCell) → first_clash H t cells ≡ None → (c : NewCell) → Contains cells c → is_other H (seen H t c.hash) c.face ≡ false
-  no-clash t cells none c h = false_from _ (λ other.
-      let there : Contains (filter (λ c. is_other H (seen H t c.hash) c.face) cells) c = Contains-filtered (λ c. is_other H (seen H t c.hash) c.face) cells c h other in
-      by (filter (λ c. is_other H (seen H t c.hash) c.face) cells) refl there none)
-    where
-      clashes : (x : NewCell) (o : Option FaceView) → seen H t x.hash ≡ o → is_other H o x.face ≡ true → option_map (λ face. refusal.Clash x.hash face x.face) o ≡ None → ⊥
-      clashes x None at other e = true≢false (sym other)
-      clashes x (Some face) at other e = none-some _ (sym e)
-
-      one : (x : NewCell) → is_other H (seen H t x.hash) x.face ≡ true → clash_with H t x ≡ None → ⊥
-      one x other e = clashes x (seen H t x.hash) refl other e
-
-      by : (cs : List NewCell) → filter (λ c. is_other H (seen H t c.hash) c.face) cells ≡ cs → Contains cs c → option_and_then (clash_with H t) (least H cs) ≡ None → ⊥
-      by [] at in' e = Contains-nil c in'
-      by (x ∷ cs) at in' e =
-          let pick = lesser H x (least H cs) in
-          let picked : Contains (filter (λ c. is_other H (seen H t c.hash) c.face) cells) pick = subst (λ (ys : List NewCell). Contains ys pick) (sym at) (least-contains (x ∷ cs) pick refl) in
-          one pick (Contains-filter (λ c. is_other H (seen H t c.hash) c.face) cells pick picked).1 e
-
-  same-of : (o : Option FaceView) (held_face : FaceView) (face : FaceView) → o ≡ Some held_face → is_other H o face ≡ false → held_face ≡ face
-  same-of None held_face face at e = absurd (none-some held_face at)
-  same-of (Some f) held_face face at e = by (same_face f face) refl e
-    where
-      by : (b : Bool) → same_face f face ≡ b → not b ≡ false → held_face ≡ face
-      by true is e = sym (same_Some f held_face at) ∙ (same_face-Decides f face).0 is
-      by false is e = absurd (true≢false e)
-
   module _ (t : ToldWorld) (are : AreSound t) (id : BlockId) (parents tops : List BlockId) (p : PreparedView) (storable : IsStorable H id tops p)
       (fresh : block_at t.world id ≡ None) (there : (q : BlockId) → Contains parents q → IsThere t.world q) (fits : Fits H p.root p.cells (map t.state parents)) where
     abbrev olds : List Tree
@@ -249,48 +205,23 @@ module _ (H : List ℕ → Hash256) where
     new-cell : (s : Tree) → Contains (subtrees new) s → Contains listed s ⊎ Contains (cells_of H t) s
     new-cell s h = ⊎_elim inl (λ old_one. inr (old-cell s old_one)) (cell-made H olds good-old p.root p.cells storable.valid storable.masks fits s h)
 
-    -- a listed cell by its line
-    line-of : (s : Tree) → Contains listed s → (c : NewCell) × Contains p.cells c × (c.face ≡ face_of H s) × (rep_of H s ≡ c.hash)
-    line-of s h =
-        let made = are-made H olds good-old p.root p.cells storable.valid storable.masks fits in
-        let valid = storable.valid in
-        let c = Contains-map (λ (c : NewCell). c.face) p.cells (face_of H s) (subst (λ (fs : List FaceView). Contains fs (face_of H s)) made.faces (Contains-mapped (face_of H) listed s h)) in
-        let k = (c.1).0 in
-        let at : listed_at p.cells k ≡ c.0 = get_or_default p.cells k no_cell c.0 (c.1).1 ∙ (c.1).2 in
-        let hash : (c.0).hash ≡ rep_of_face H (c.0).face = subst (λ (x : NewCell). x.hash ≡ rep_of_face H x.face) at (valid.hashed k (c.1).1) in
-        (c.0, c.1, c.2, rep_of-face_of H s ∙ sym (ap (rep_of_face H) c.2) ∙ sym hash)
-
-    one-line : (c d : NewCell) → Contains p.cells c → Contains p.cells d → c.hash ≡ d.hash → c ≡ d
-    one-line c d in-c in-d same =
-        let valid = storable.valid in
-        let at-c : listed_at p.cells in-c.0 ≡ c = get_or_default p.cells in-c.0 no_cell c in-c.1 ∙ in-c.2 in
-        let at-d : listed_at p.cells in-d.0 ≡ d = get_or_default p.cells in-d.0 no_cell d in-d.1 ∙ in-d.2 in
-        let place : in-c.0 ≡ in-d.0 = valid.distinct in-c.0 in-d.0 in-c.1 in-d.1 (ap (λ (x : NewCell). x.hash) at-c ∙ same ∙ sym (ap (λ (x : NewCell). x.hash) at-d)) in
-        sym at-c ∙ ap (listed_at p.cells) place ∙ at-d
-
     -- ---- free of clashes
 
-    module _ (none : first_clash H t p.cells ≡ None) where
-      held-line : (b : Tree) (c : NewCell) → Contains (cells_of H t) b → Contains p.cells c → rep_of H b ≡ c.hash → face_of H b ≡ c.face
-      held-line b c in-b in-c rep =
-          let found : seen H t c.hash ≡ Some (face_of H b) = ap (λ (h : Hash256). option_map (face_of H) (get (held H t) h.0)) (sym rep) ∙ ap (option_map (face_of H)) (cell_is_held H t are.clear b in-b) in
-          same-of (seen H t c.hash) (face_of H b) c.face found (no-clash t p.cells none c in-c)
+    -- a listed cell has the face of its line
+    pub cell-known : (s : Tree) → Contains (subtrees new) s → IsCellOf H t p s
+    cell-known s h = ⊎_elim
+        (λ one.
+        let made = are-made H olds good-old p.root p.cells storable.valid storable.masks fits in
+        inr (Contains-map (λ (c : NewCell). c.face) p.cells (face_of H s) (subst (λ (fs : List FaceView). Contains fs (face_of H s)) made.faces (Contains-mapped (face_of H) listed s one))))
+        inl
+        (new-cell s h)
 
-      pub clear-stored : AreClashFree H (states_of v)
-      clear-stored a b in-a in-b rep = by (side a (v-cell a in-a)) (side b (v-cell b in-b))
-        where
-          side : (s : Tree) → Contains (cells_of H t) s ⊎ Contains (subtrees new) s → Contains (cells_of H t) s ⊎ Contains listed s
-          side s (inl old_one) = inl old_one
-          side s (inr below) = ⊎_elim inr inl (new-cell s below)
-
-          by : Contains (cells_of H t) a ⊎ Contains listed a → Contains (cells_of H t) b ⊎ Contains listed b → face_of H a ≡ face_of H b
-          by (inl x) (inl y) = are.clear a b x y rep
-          by (inl x) (inr y) = let c = line-of b y in held-line a c.0 x c.1 (rep ∙ c.3) ∙ c.2
-          by (inr x) (inl y) = let c = line-of a x in sym c.2 ∙ sym (held-line b c.0 y c.1 (sym rep ∙ c.3))
-          by (inr x) (inr y) =
-              let c = line-of a x in
-              let d = line-of b y in
-              sym c.2 ∙ ap (λ (z : NewCell). z.face) (one-line c.0 d.0 c.1 d.1 (sym c.3 ∙ rep ∙ d.3)) ∙ d.2
+    pub clear-stored : first_clash H t p.cells ≡ None → AreClashFree H (states_of v)
+    clear-stored none a b in-a in-b rep = known-clear H t are.clear p storable.valid none a b (side a (v-cell a in-a)) (side b (v-cell b in-b)) rep
+      where
+        side : (s : Tree) → Contains (cells_of H t) s ⊎ Contains (subtrees new) s → IsCellOf H t p s
+        side s (inl old_one) = inl old_one
+        side s (inr below) = cell-known s below
 
     -- ---- counts
 
@@ -315,6 +246,27 @@ module _ (H : List ℕ → Hash256) where
             let e = entry-got (held H v) q s at in
             let fails : over e.0 ≡ false = missed (Prelude.find over (entries (held H v))) refl none e.0 e.1 in
             tested (nat_lt (count H t q) (count H v q)) (nat_lt limit (count H v q)) refl refl (subst (λ (k : List ℕ). (nat_lt (count H t k) (count H v k) && nat_lt limit (count H v k)) ≡ false) (sym e.2) fails)
+
+    -- ---- the tree that was prepared
+
+    pub made-prepared : first_clash H t p.cells ≡ None → (tree : Tree) → info_of H tree ≡ p.root → ((s : Tree) → Contains (subtrees tree) s → IsCellOf H t p s) → new ≡ tree
+    made-prepared none tree info known =
+        let both = new ∷ tree ∷ [] in
+        let there_new = Contains-first new (tree ∷ []) in
+        let there_tree = Contains-later new (tree ∷ []) tree (Contains-first tree []) in
+        same_subtrees H both clear new tree (flat_map-listed both new new there_new (subtree-itself new)) (flat_map-listed both tree tree there_tree (subtree-itself tree))
+        (ap rep_of_info (info-made H olds good-old p.root p.cells storable.valid storable.masks fits ∙ sym info))
+      where
+        side : (s : Tree) → Contains (flat_map subtrees (new ∷ tree ∷ [])) s → IsCellOf H t p s
+        side s h =
+            let from = flat_map-cases (new ∷ tree ∷ []) s h in
+            ⊎_elim
+            (λ same. cell-known s (subst (λ (r : Tree). Contains (subtrees r) s) (sym same) from.2))
+            (λ later. ⊎_elim (λ same. known s (subst (λ (r : Tree). Contains (subtrees r) s) (sym same) from.2)) (λ more. absurd (Contains-nil from.0 more)) (Contains-cases tree [] from.0 later))
+            (Contains-cases new (tree ∷ []) from.0 from.1)
+
+        clear : AreClashFree H (new ∷ tree ∷ [])
+        clear a b in-a in-b rep = known-clear H t are.clear p storable.valid none a b (side a in-a) (side b in-b) rep
 
     -- ---- blocks
 
@@ -361,6 +313,9 @@ module _ (H : List ℕ → Hash256) where
       }
 
   -- ---- the machine keeps a world sound
+
+  itself : (n : ℕ) → n ≤ n
+  itself n = omega arith
 
   option_map-none : {A B : Type 0} (f : A → B) (o : Option A) → option_map f o ≡ None → o ≡ None
   option_map-none f None e = refl
@@ -419,7 +374,7 @@ module _ (H : List ℕ → Hash256) where
         let rest = or_second _ _ free in
         sound-stored t (sound-parts t sound) id [] tops p asked.0 (none_of t.world id (or_first _ _ free)) (λ q h. absurd (Contains-nil q h)) asked.1
         (related-by id [] (or_first _ _ rest)) (λ e. root-by id p (or_second _ _ rest)) (omega arith) (recursion_from_All IsBlockId [] (All-nil IsBlockId)) limit low cells
-    sound_moved limit low t worker (Pin id) sound asked free cells = sound-some _ t (record { state = refl; from = λ d h. (d, h, refl); fewer = λ q. omega arith }) (sound-parts t sound)
+    sound_moved limit low t worker (Pin id) sound asked free cells = sound-some _ t (record { state = refl; from = λ d h. (d, h, refl); fewer = λ q. itself _ }) (sound-parts t sound)
     sound_moved limit low t worker (Look pin asked_for) sound asked free cells = sound-parts t sound
     sound_moved limit low t worker (Merge pin other id tops p) sound asked free cells = by (rows_at t.world worker pin other) refl free cells
       where
@@ -486,3 +441,12 @@ module _ (H : List ℕ → Hash256) where
     stays_sound limit t [] low sound follow asked = sound
     stays_sound limit t (e ∷ es) low sound follow asked =
         stays_sound limit (told_after H t e) es low (sound_after limit low t e sound follow.0 asked.0) follow.1 asked.1
+
+  -- ---- prepared values
+
+  pub all_together : StaysClear H
+  all_together t p ns sound valid none known = beside-clear H t sound.clear p valid none ns known
+
+  pub stands_for : StandsForPrepared H
+  stands_for t id tops parents p tree sound storable fresh there fits none info known =
+      made-prepared t (sound-parts t sound) id parents tops p storable fresh (λ q h. there-found t.world q (All-contains (λ q. IsSome (block_at t.world q)) parents q there h)) fits none tree info known

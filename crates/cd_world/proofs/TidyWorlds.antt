@@ -1,14 +1,13 @@
 -- A tidy world stays tidy.
-use Rattle.std.proofs.Common.{◌≡◌, ℕ, ◌+◌, ◌<◌, ◌≤◌, Bool, true, false, cond, not, List, [], ◌∷◌, ◌++◌, Option, Some, None, Contains, All, refl, sym, ap, ap₂, ◌∙◌, subst, arith}
-use Rattle.std.specs.Prelude.{find, nat_eq, nat_lt, is_some, IsSome, map}
+use Rattle.std.proofs.Common.{◌≡◌, ℕ, ◌+◌, ◌<◌, ◌≤◌, Bool, true, false, cond, not, List, [], ◌∷◌, Option, Some, None, Contains, refl, sym, ap, ap₂, ◌∙◌, subst, arith}
+use Rattle.std.specs.Prelude.{nat_eq, nat_lt, is_some, IsSome}
 use Rattle.std.specs.Option.{option_to_list, option_and_then, unwrap_or}
-use Rattle.std.specs.List.{filter, list_any, count_by}
-use Rattle.std.proofs.lemmas.Bool.{and_parts, and_from, true≢false, ltb-true}
+use Rattle.std.specs.List.{filter}
+use Rattle.std.proofs.lemmas.Bool.{and_parts, true≢false, ltb-true}
 use Rattle.std.proofs.lemmas.Bool.Decides.{Decides-eqb}
-use Rattle.std.proofs.lemmas.List.Elements.{All-append, All-contains, All-weaker, All-push}
+use Rattle.std.proofs.lemmas.List.Elements.{All-contains, All-weaker, All-push}
 use Rattle.std.proofs.lemmas.List.Folds.{list_any_at}
 use Rattle.std.proofs.lemmas.List.Sums.{sum_by-append}
-use Rattle.std.proofs.lemmas.Option.{none-some, same_Some}
 use Rattle.cd_base.specs.declared.hash.Hash256.{Hash256}
 use Rattle.cd_block.specs.declared.block.BlockId.{BlockId}
 use Rattle.cd_block.specs.declared.description.Descr.{Descr}
@@ -16,13 +15,12 @@ use Rattle.cd_block.specs.Block.{id_cmp}
 use Rattle.cd_event.specs.declared.event.Event.{Event}
 use Rattle.cd_event.specs.declared.event.Event.TheVariants.{Zero, Pin, Look, Merge, Unpin, Expire}
 use Rattle.cd_event.specs.declared.entry.Entry.{Entry}
-use Rattle.cd_event.specs.declared.refusal.Refusal.{Refusal}
 use Rattle.cd_event.specs.declared.refusal.Refusal.TheVariants as refusal
-use Rattle.cd_cell.proofs.Subtrees.{Contains-first, Contains-later, Contains-cases, Contains-nil, Contains-mapped}
+use Rattle.cd_cell.proofs.Subtrees.{Contains-mapped}
 use Rattle.cd_world.specs.declared.limits.TheConstants.{MOST_PINS}
 use Rattle.cd_world.specs.declared.world.World.{World}
 use Rattle.cd_world.specs.declared.world.PinRow.{PinRow}
-use Rattle.cd_world.specs.Standing.{same_id, has_id, block_at, unless_leaving, kept_at, pin_at, is_of_worker, pins_of, names_block, is_pinned, is_pin, is_expired, IsBeforeBlock, IsBeforePin, IsTidy}
+use Rattle.cd_world.specs.Standing.{has_id, block_at, unless_leaving, kept_at, pin_at, is_of_worker, pins_of, names_block, is_pinned, is_pin, is_expired, IsBeforeBlock, IsBeforePin, IsTidy}
 use Rattle.cd_world.specs.Changes.{with_block, stored, row_of, with_pin, pins_without, goes_with, without_pin, without_pins, goes_at_once, marked, without_expired}
 use Rattle.cd_world.specs.Machine.{rows_at, blocks_of, refused_if, unpinnable, unmergeable, refusal_of, unless_expired, moved, is_refused, after, replay}
 use Rattle.cd_world.specs.Following.{Follows, AllFollow}

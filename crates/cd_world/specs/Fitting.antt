@@ -1,5 +1,5 @@
 -- Trusted: a prepared value that fits under live pins fits as long as they are live.
-use Rattle.std.specs.Prelude.{◌≡◌, ℕ, List, [], ◌∷◌, map}
+use Rattle.std.specs.Prelude.{ℕ, List, [], ◌∷◌, map}
 use Rattle.cd_base.specs.declared.hash.Hash256.{Hash256}
 use Rattle.cd_block.specs.declared.description.Descr.{Descr}
 use Rattle.cd_cell.specs.Tree.{Tree}

@@ -12,3 +12,4 @@ pub mod OneImage
 pub mod Pinning
 pub mod Fitting
 pub mod Soundness
+pub mod Preparing

@@ -19,7 +19,7 @@ use Rattle.cd_cell.specs.PreparedView.{PreparedView}
 use Rattle.cd_record.specs.declared.limits.TheConstants.{GREATEST_COUNT}
 use Rattle.cd_keeper.specs.Contents.{Contents}
 use Rattle.cd_event.specs.declared.event.Event.{Event}
-use Rattle.cd_event.specs.declared.event.Event.TheVariants.{Zero, Pin, Look, Merge, Unpin, Expire}
+use Rattle.cd_event.specs.declared.event.Event.TheVariants.{Zero, Merge}
 use Rattle.cd_event.specs.declared.entry.Entry.{Entry}
 use Rattle.cd_event.specs.declared.refusal.Refusal.{Refusal}
 use Rattle.cd_event.specs.declared.refusal.Refusal.TheVariants as refusal

@@ -3,6 +3,7 @@ ghost use Rattle.cd_world.specs.Fitting.{FitsStay};
 ghost use Rattle.cd_world.specs.Journals.{ReplayGoesOn, FollowingGoesOn, ToldReplayGoesOn, ToldFollowingGoesOn, TrailGoesOn, WorldIsReplayed, ToldFollow, StaysTidy};
 ghost use Rattle.cd_world.specs.OneImage.{OneImage, OneWorld};
 ghost use Rattle.cd_world.specs.Pinning.{PinStays, TreeStays};
+ghost use Rattle.cd_world.specs.Preparing.{StaysClear, StandsForPrepared};
 ghost use Rattle.cd_world.specs.Soundness.{StaysSound};
 
 use cd_cell::Hash32;
@@ -51,4 +52,10 @@ pub fn a_fitting_value_still_fits<H: Hash32>()
 /// Where each event is asked for as the calls ask it, a sound world stays sound.
 pub fn a_sound_world_stays_sound<H: Hash32>()
     ensures { StaysSound H.digest_of H }
+{}
+
+/// Where a value clashes with nothing held, what is stored of it is the tree that was prepared.
+pub fn a_stored_value_is_the_prepared_tree<H: Hash32>()
+    ensures clear { StaysClear H.digest_of }
+    ensures stands { StandsForPrepared H.digest_of }
 {}
