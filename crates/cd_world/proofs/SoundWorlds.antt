@@ -314,6 +314,9 @@ module _ (H : List ℕ → Hash256) where
 
   -- ---- the machine keeps a world sound
 
+  none_few : length {A = BlockId} [] ≤ 2
+  none_few = omega arith
+
   itself : (n : ℕ) → n ≤ n
   itself n = omega arith
 
@@ -373,7 +376,7 @@ module _ (H : List ℕ → Hash256) where
     sound_moved limit low t worker (Zero id tops p) sound asked free cells =
         let rest = or_second _ _ free in
         sound-stored t (sound-parts t sound) id [] tops p asked.0 (none_of t.world id (or_first _ _ free)) (λ q h. absurd (Contains-nil q h)) asked.1
-        (related-by id [] (or_first _ _ rest)) (λ e. root-by id p (or_second _ _ rest)) (omega arith) (recursion_from_All IsBlockId [] (All-nil IsBlockId)) limit low cells
+        (related-by id [] (or_first _ _ rest)) (λ e. root-by id p (or_second _ _ rest)) none_few (recursion_from_All IsBlockId [] (All-nil IsBlockId)) limit low cells
     sound_moved limit low t worker (Pin id) sound asked free cells = sound-some _ t (record { state = refl; from = λ d h. (d, h, refl); fewer = λ q. itself _ }) (sound-parts t sound)
     sound_moved limit low t worker (Look pin asked_for) sound asked free cells = sound-parts t sound
     sound_moved limit low t worker (Merge pin other id tops p) sound asked free cells = by (rows_at t.world worker pin other) refl free cells
