@@ -1,2 +1,15 @@
 pub mod World
 pub mod Image
+pub mod Standing
+pub mod Changes
+pub mod Machine
+pub mod Following
+pub mod Told
+pub mod Trail
+pub mod Unfolded
+pub mod Journals
+pub mod OneImage
+pub mod Pinning
+pub mod Fitting
+pub mod Soundness
+pub mod Preparing
