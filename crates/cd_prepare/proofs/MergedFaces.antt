@@ -1,5 +1,5 @@
 -- Laws of own cells with the joined cell of two states behind them, by their faces.
-use Rattle.std.proofs.Common.{◌≡◌, ℕ, zero, suc, ◌+◌, ◌<◌, ◌≤◌, Bool, true, false, List, [], ◌∷◌, ◌++◌, All, Contains, Option, Some, None, refl, ap, sym, ◌∙◌, subst, inl, inr, ⊎_elim, ◌⊎◌, arith}
+use Rattle.std.proofs.Common.{◌≡◌, ℕ, zero, suc, ◌+◌, ◌<◌, ◌≤◌, Bool, true, false, List, [], ◌∷◌, ◌++◌, map, All, Contains, Option, Some, None, refl, ap, sym, ◌∙◌, subst, inl, inr, ⊎_elim, ◌⊎◌, arith}
 use Rattle.std.proofs.lemmas.List.Elements.{All-cons, All-nil, Contains-append_cases, Contains-append_left, Contains-append_right}
 use Rattle.cd_base.specs.declared.hash.Hash256.{Hash256}
 use Rattle.cd_cell.specs.declared.info.ChildInfo.{ChildInfo}
@@ -9,12 +9,14 @@ use Rattle.cd_cell.specs.Infos.{info_hash, info_depth}
 use Rattle.cd_cell.specs.Levels.{info_of_face, mask_of_face}
 use Rattle.cd_cell.specs.Steady.{IsSteady}
 use Rattle.cd_cell.specs.GoodFace.{IsGoodFace}
-use Rattle.cd_cell.specs.Tree.{Tree}
+use Rattle.cd_cell.specs.Tree.{Tree, info_of, face_of}
 use Rattle.cd_cell.specs.Clashes.{clash_of}
-use Rattle.cd_cell.specs.Listings.{IsValid}
+use Rattle.cd_cell.specs.Listings.{IsValid, old_cells, known_infos, Fits}
 use Rattle.cd_cell.specs.Updates.{half_of}
-use Rattle.cd_cell.proofs.Subtrees.{Contains-cases, Contains-nil}
+use Rattle.cd_cell.proofs.Subtrees.{Contains-first, Contains-cases, Contains-nil}
 use Rattle.cd_cell.proofs.Heights.{IsSteady-info_of_face}
+use Rattle.cd_cell.specs.Equality.{same_face}
+use Rattle.cd_update.specs.EachOnce.{each_once}
 use Rattle.cd_update.specs.Pairing.{upto, IsOldInfo}
 use Rattle.cd_update.specs.Grafts.{own_faces, foreign_hash}
 use Rattle.cd_update.specs.Hides.{hides}
@@ -22,8 +24,9 @@ use Rattle.cd_update.proofs.HalfVisits.{IsUpdateTree}
 use Rattle.cd_update.proofs.OldInfos.{whole_face}
 use Rattle.cd_prepare.specs.NewCells.{AreListed}
 use Rattle.cd_prepare.specs.Merged.{split_of, listed_if}
-use Rattle.cd_prepare.proofs.NewLists.{HasParent, IsValid-faces}
-use Rattle.cd_prepare.proofs.OwnFaces.{root, clear-faces, good-faces, steady-kids, parents, parent-at, hides-place, root-is}
+use Rattle.cd_prepare.proofs.NewLists.{HasParent, IsValid-faces, known-listed, Fits-faces}
+use Rattle.cd_prepare.proofs.UpdateLaws.{old-shown, AreFacesOf, each-face}
+use Rattle.cd_prepare.proofs.OwnFaces.{root, WasHidden, kids-shown, root-shown, clear-faces, good-faces, steady-kids, parents, parent-at, hides-place, root-is}
 
 -- ---- what the joined cell shows
 
@@ -111,3 +114,61 @@ module _ {H : List ℕ → Hash256} {u : Tree} (update : IsUpdateTree H u) (know
           subst (λ x. IsValid H x cs) (sym is)
           (subst (IsValid H (root update known old none)) (sym are_cells)
           (IsValid-faces H faces cells listed (root update known old none) good-merged steady-merged (clear-faces H faces clear) parents-merged root_is.0 root_is.2))
+
+      -- they fit over old trees: each kid of the joined cell is an old cell's, and so is what is known but for the joined
+      -- cell itself
+      module _ (cells : List NewCell) (listed : AreListed H faces cells) (olds : List Tree) (known_is : (k : ChildInfo) → Contains known k → (info_of_face H top ≡ k) ⊎ ((s : Tree) × Contains (old_cells olds) s × (info_of H s ≡ k))) (kid_is : (k : ChildInfo) → Contains top.kids k → (s : Tree) × Contains (old_cells olds) s × (info_of H s ≡ k)) where
+        old-there : (k : ChildInfo) → (s : Tree) × Contains (old_cells olds) s × (info_of H s ≡ k) → Contains (known_infos H cells olds) k
+        old-there k s = subst (Contains (known_infos H cells olds)) s.2 (old-shown H cells olds s.0 s.1)
+
+        top-there : given ≡ true → Contains faces top
+        top-there e =
+            subst (λ fs. Contains fs top) (sym made)
+            (Contains-append_right own (listed_if given top) top (subst (λ x. Contains (listed_if x top) top) (sym e) (Contains-first top [])))
+
+        shown-there : (k : ChildInfo) → ((f : FaceView) × Contains own f × (info_of_face H f ≡ k)) ⊎ WasHidden update known old none own are k → Contains (known_infos H cells olds) k
+        shown-there k h =
+            ⊎_elim
+            (λ here. subst (Contains (known_infos H cells olds)) here.2 (known-listed H faces cells listed olds here.0 (own-there here.0 here.1)))
+            (λ hidden.
+            ⊎_elim
+            (λ same.
+            let is_given : given ≡ true = ap (λ x. hides H x (half_of u 1)) same ∙ hidden.1 in
+            subst (Contains (known_infos H cells olds)) same (known-listed H faces cells listed olds top (top-there is_given)))
+            (old-there k)
+            (known_is k hidden.0))
+            h
+
+        pub fits-merged : (r : ChildInfo) (cs : List NewCell) → r ≡ root update known old none → cs ≡ cells → Fits H r cs olds
+        fits-merged r cs is are_cells =
+            subst (λ x. Fits H x cs olds) (sym is)
+            (subst (λ xs. Fits H (root update known old none) xs olds) (sym are_cells)
+            (Fits-faces H faces cells listed (root update known old none) olds
+            (shown-there (root update known old none) (root-shown update known old none own are))
+            (λ f h k kid.
+            ⊎_elim
+            (λ here. shown-there k (kids-shown update known old none own are f here k kid))
+            (λ joined. old-there k (kid_is k (subst (λ (x : FaceView). Contains x.kids k) (sym joined.1) kid)))
+            (cases f h))))
+
+-- ---- the listed cells by their trees
+
+pub merged-faces_of : (H : List ℕ → Hash256) (own : List Tree) (given : Bool) (t : Tree) (faces : List FaceView) → faces ≡ each_once same_face (map (face_of H) own) ++ listed_if given (face_of H t) → AreFacesOf H (own ++ listed_if given t) faces
+merged-faces_of H own given t faces made =
+    let new = each_once same_face (map (face_of H) own) in
+    let each = each-face H own new refl in
+    record {
+      there = λ c h.
+          subst (λ fs. Contains fs (face_of H c)) (sym made)
+          (⊎_elim
+          (λ here. Contains-append_left new (listed_if given (face_of H t)) (face_of H c) (each.there c here))
+          (λ joined.
+          Contains-append_right new (listed_if given (face_of H t)) (face_of H c)
+          (subst (λ e. Contains (listed_if e (face_of H t)) (face_of H c)) (sym joined.0) (subst (λ x. Contains (face_of H t ∷ []) (face_of H x)) joined.1 (Contains-first (face_of H t) []))))
+          (with-cases own given t c h));
+      back = λ f h.
+          ⊎_elim
+          (λ here. let c = each.back f here in (c.0, Contains-append_left own (listed_if given t) c.0 c.1, c.2))
+          (λ joined. (t, Contains-append_right own (listed_if given t) t (subst (λ e. Contains (listed_if e t) t) (sym joined.0) (Contains-first t [])), joined.1))
+          (with-cases new given (face_of H t) f (subst (λ fs. Contains fs f) made h));
+    }

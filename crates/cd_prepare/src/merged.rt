@@ -127,6 +127,12 @@ pub fn prepare_merged<H: Hash32>(
     ensures rep { IfOk result (λ value. rep_of_info value.root ≡ stated_new H.digest_of (tree_of update.now)) }
     ensures refused { Answers (split_fault H.digest_of (tree_of update.now) left.now right.now faces.now) result }
 
+    // Over the trees of two states the answer is that of their joined tree.
+    ensures exact { (a b : Tree) → AreOfBoth H.digest_of (tree_of update.now) a b left.now right.now faces.now
+        → Answers (merged_fault H.digest_of (tree_of update.now) a b) result }
+    ensures applied { (a b : Tree) → AreOfBoth H.digest_of (tree_of update.now) a b left.now right.now faces.now
+        → IfOk result (λ value. IsMergeApplied H.digest_of (tree_of update.now) a b value.root value.cells) }
+
     // What is prepared keeps what every prepared value does.
     ensures valid { IfOk result (λ value. IsValid H.digest_of value.root value.cells) }
 {
