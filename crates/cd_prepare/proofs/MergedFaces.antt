@@ -42,6 +42,7 @@ level_0-steady k = record {
     hash (suc zero) low = refl
     hash (suc (suc zero)) low = refl
     hash (suc (suc (suc l))) low = absurd (omega arith)
+
     depth : (l : ℕ) → l < 3 → info_depth (upto 0 k) (l + 1) ≡ info_depth (upto 0 k) l
     depth zero low = refl
     depth (suc zero) low = refl

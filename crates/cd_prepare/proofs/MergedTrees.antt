@@ -78,10 +78,12 @@ module _ {H : List ℕ → Hash256} {u : Tree} (update : IsUpdateTree H u) (a b 
       let found = find-Some (λ k. stands_for n p.depth (info_of H k)) (known_of H u (joined_tree a b)) c given.3 in
       ⊎_elim
       (λ same.
-      inl
-      (Contains-list_any (hides_at H (info_of H (joined_tree a b))) (places H half 0) p given.1
-      (and_from (is_hidden p.depth (face_of H p.tree)) (stands_for n p.depth (info_of H (joined_tree a b))) given.2
-      (ap (λ k. stands_for n p.depth (info_of H k)) same ∙ found.0)), same))
+      inl (
+        Contains-list_any (hides_at H (info_of H (joined_tree a b))) (places H half 0) p given.1
+            (and_from (is_hidden p.depth (face_of H p.tree)) (stands_for n p.depth (info_of H (joined_tree a b))) given.2
+            (ap (λ k. stands_for n p.depth (info_of H k)) same ∙ found.0)),
+        same,
+      ))
       inr
       (Contains-cases (joined_tree a b) (old_cells olds) c (subtree-known H (half_of u 0) (joined_tree a b) 0 c found.1))
 
