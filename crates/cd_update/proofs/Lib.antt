@@ -13,3 +13,4 @@ pub mod GraftInfos
 pub mod GraftVisits
 pub mod GraftTrees
 pub mod BelowVisits
+pub mod PairedHalves

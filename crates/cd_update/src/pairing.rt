@@ -1,4 +1,4 @@
-ghost use Rattle.std.specs.Prelude.{◌≡◌, ◌≢◌, ◌≤◌, All, slice_index_or, None, Some, IfOk, MatchOption};
+ghost use Rattle.std.specs.Prelude.{◌≡◌, ◌≢◌, ◌≤◌, All, slice_index_or, None, Some, IfOk, IfErr, MatchOption};
 ghost use Rattle.std.specs.List.{flat_map};
 ghost use Rattle.std.specs.Option.{option_map};
 ghost use Rattle.cd_cell.specs.Tree.{Tree};
@@ -7,7 +7,7 @@ ghost use Rattle.cd_cell.specs.Updates.{old_half, half_of, known_of};
 ghost use Rattle.cd_update.specs.EachOnce.{each_once};
 ghost use Rattle.cd_update.specs.Nodes.{IsShown};
 ghost use Rattle.cd_update.specs.Visits.{place_of, visited, IsHalf};
-ghost use Rattle.cd_update.specs.Pairing.{unlike, beside, wanted_hashes_below, half_root_refusal, known_at, misfit_at, misfit_among, met_infos, pair_refusal, tree_refusal, AreOf};
+ghost use Rattle.cd_update.specs.Pairing.{unlike, beside, wanted_hashes, wanted_hashes_below, first_misfit, half_root_refusal, known_at, misfit_at, misfit_among, met_infos, pair_refusal, tree_refusal, AreOf};
 ghost use Rattle.cd_update.specs.PairingBelow.{misfit_under, refusal_below, AreBelow};
 ghost use Rattle.cd_update.specs.Grafts.{AreShownBy};
 ghost use Rattle.cd_update.specs.UpdateTrees.{tree_of, old_half_of};
@@ -127,6 +127,19 @@ fn check_top<H: Hash32>(bag: &Bag<H>, first: &Visit, top: &Face) -> Result<(), P
     }
 }
 
+/// The first visit of an old half that doesn't agree with the face that stands beside its hash.
+fn check_shown<H: Hash32>(
+    alloc: Global,
+    half: &HalfWalk<'_, H>,
+    faces: &[Option<Face>],
+) -> Result<(), PairFault>
+    ensures { (u : Tree) → IsHalf half.now.bag.now half.now.start u 0
+        → PairAnswers (option_map old_half (first_misfit H.digest_of
+        (beside (wanted_hashes H.digest_of u) faces.now) (half_of u 0))) result }
+{
+    check_visits(alloc, half.bag, half.visits(), faces)
+}
+
 /// The first visit of an old half that doesn't agree: its root with the old root's face, or one behind it with the face
 /// that stands beside its hash.
 fn check_below<H: Hash32>(
@@ -161,6 +174,36 @@ fn infos_of<H: Hash32>(alloc: Global, bag: &Bag<H>, visits: &[Visit]) -> Result<
     })
 }
 
+/// The walk over the old half of an update that states an old root.
+fn stated_half<'a, H: Hash32>(
+    alloc: Global,
+    update: &Update<'a, H>,
+    root: &ChildInfo,
+) -> Result<HalfWalk<'a, H>, PairFault>
+    ensures refused { PairAnswers (half_root_refusal H.digest_of (old_half_of update.now) root.now) result }
+    ensures half { IfOk result (λ half. IsHalf half.bag.now half.start (tree_of update.now) 0) }
+{
+    if let Err(fault) = check_root(update, root) {
+        return Err(fault);
+    }
+    match update.walk(alloc, 0) {
+        Ok(half) => Ok(half),
+        Err(_) => Err(PairFault::Memory),
+    }
+}
+
+/// What the old cells show that an old half met.
+fn known_of<H: Hash32>(alloc: Global, half: &HalfWalk<'_, H>) -> Result<Known, PairFault>
+    ensures infos { (u : Tree) → IsHalf half.now.bag.now half.now.start u 0
+        → IfOk result (λ known. known.infos ≡ met_infos H.digest_of (half_of u 0)) }
+    ensures memory { IfErr result (λ fault. fault ≡ PairFault.Memory) }
+{
+    match infos_of(alloc, half.bag, half.visits()) {
+        Ok(known) => Ok(known),
+        Err(_) => Err(PairFault::Memory),
+    }
+}
+
 /// Pairs the old half of an update with an old tree, by what its root shows and by the faces that stand beside
 /// the wanted hashes. Each cell of the bag is visited once for each of its Merkle depths. Where the root and the
 /// faces aren't those of a tree, nothing is said of what comes but what the faces themselves tell.
@@ -179,19 +222,14 @@ pub fn pair_old<H: Hash32>(
     ensures tree { (t : Tree) → AreOf H.digest_of t (tree_of update.now) root.now faces.now
         → IfOk result (λ known. AreShownBy H.digest_of (known_of H.digest_of (tree_of update.now) t) known.infos) }
 {
-    if let Err(fault) = check_root(update, root) {
-        return Err(fault);
-    }
-    let Ok(half) = update.walk(alloc, 0) else {
-        return Err(PairFault::Memory);
+    let half = match stated_half(alloc, update, root) {
+        Ok(half) => half,
+        Err(fault) => return Err(fault),
     };
-    if let Err(fault) = check_visits(alloc, half.bag, half.visits(), faces) {
+    if let Err(fault) = check_shown(alloc, &half, faces) {
         return Err(fault);
     }
-    match infos_of(alloc, half.bag, half.visits()) {
-        Ok(known) => Ok(known),
-        Err(_) => Err(PairFault::Memory),
-    }
+    known_of(alloc, &half)
 }
 
 /// Pairs the old half of an update with an old tree whose root isn't looked up: by what the root shows, by its face, and
@@ -213,17 +251,12 @@ pub fn pair_below<H: Hash32>(
     ensures tree { (t : Tree) → AreBelow H.digest_of t (tree_of update.now) root.now top.now faces.now
         → IfOk result (λ known. AreShownBy H.digest_of (known_of H.digest_of (tree_of update.now) t) known.infos) }
 {
-    if let Err(fault) = check_root(update, root) {
-        return Err(fault);
-    }
-    let Ok(half) = update.walk(alloc, 0) else {
-        return Err(PairFault::Memory);
+    let half = match stated_half(alloc, update, root) {
+        Ok(half) => half,
+        Err(fault) => return Err(fault),
     };
     if let Err(fault) = check_below(alloc, &half, top, faces) {
         return Err(fault);
     }
-    match infos_of(alloc, half.bag, half.visits()) {
-        Ok(known) => Ok(known),
-        Err(_) => Err(PairFault::Memory),
-    }
+    known_of(alloc, &half)
 }

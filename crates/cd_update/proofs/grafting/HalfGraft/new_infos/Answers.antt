@@ -1,5 +1,5 @@
 -- A spot has the number of the visit that it is of, which is worked out now.
-use Rattle.std.proofs.Common.{◌≡◌, ◌-◌, ◌+◌, get_or, None, sym, ap, subst, ◌∙◌, arith}
+use Rattle.std.proofs.Common.{◌≡◌, ◌-◌, ◌+◌, sym, ap, subst, ◌∙◌, arith}
 use Rattle.cd_update.specs.Visits.{spot}
 use Rattle.cd_update.specs.GraftWalks.{new_info_at, AreDone}
 use Rattle.cd_update.proofs.GraftVisits.{grafted-start, grafted-skip, grafted-more}
