@@ -1,7 +1,7 @@
 use cd_base::Hash256;
 use cd_boc_read::read_bag;
-use cd_cell::{Bag, Bits, ChildInfo, Face, Hash32, Mask, NewCell, Sha, WeakSum};
-use cd_prepare::{PrepareFault, prepare_update, prepare_zero};
+use cd_cell::{Bag, Bits, ChildInfo, Face, Hash32, Mask, NewCell, Sha, WeakSum, face_info};
+use cd_prepare::{PrepareFault, prepare_merged, prepare_update, prepare_zero, split_face};
 use cd_update::{GraftFault, PairFault, Update, UpdateFault, graft, pair_old};
 use std::alloc::{AllocError, Global};
 use std::process::Abort;
@@ -15,6 +15,8 @@ enum Stem {
     Bytes(&'static [u8]),
     // A pruned branch of a mask of one bit, for a cell of this hash and of depth 0.
     Pruned(u8, u8),
+    // The same for a cell of depth 1.
+    PrunedAbove(u8, u8),
     // A proof that states this hash and the depth 0.
     Proof(u8),
     // An update that states these hashes, old and new, and these depths.
@@ -30,6 +32,7 @@ fn bytes_of(alloc: Global, stem: &Stem) -> Result<Vec<u8>, AllocError> {
     match *stem {
         Stem::Bytes(bytes) => bytes.to_vec(alloc),
         Stem::Pruned(mask, hash) => ending(alloc, &[1, mask], 36, &[(33, hash)]),
+        Stem::PrunedAbove(mask, hash) => ending(alloc, &[1, mask], 36, &[(33, hash), (35, 1)]),
         Stem::Proof(hash) => ending(alloc, &[3], 35, &[(32, hash)]),
         Stem::Update(old, new, old_depth, new_depth) => ending(
             alloc,
@@ -371,6 +374,7 @@ enum Due {
     OldHalf(u8, Shape, Shape),
     Foreign(u8),
     NewClash(u8),
+    SplitDeep(u32),
 }
 
 fn fault_of(alloc: Global, due: &Due) -> Result<PrepareFault, Fail> {
@@ -390,6 +394,7 @@ fn fault_of(alloc: Global, due: &Due) -> Result<PrepareFault, Fail> {
         },
         Due::Foreign(hash) => PrepareFault::Foreign { hash: weak(*hash) },
         Due::NewClash(hash) => PrepareFault::NewClash { hash: weak(*hash) },
+        Due::SplitDeep(depth) => PrepareFault::SplitDeep { depth: *depth },
     })
 }
 
@@ -525,6 +530,244 @@ fn what_is_refused_of_updates(rt: HostRuntime) -> Result<(), Fail> {
     }
     Ok(())
 }
+
+// ---- updates over the joined tree of two states
+
+// What both states show, the faces beside the hashes that are wanted below the root of the old half, and these hashes,
+// the cells of the bag, and the new root and the listed cells.
+struct Merge {
+    cells: &'static [Cell],
+    left: Shown,
+    right: Shown,
+    faces: &'static [Option<Shape>],
+    below: &'static [u8],
+    root: Shown,
+    listed: &'static [u8],
+}
+
+// The states of the bytes 01 and 02.
+const LEFT: Shown = Shown::Whole(3, 0);
+
+const RIGHT: Shown = Shown::Whole(4, 0);
+
+const TAG: Stem = Stem::Bytes(&[0x5f, 0x32, 0x7d, 0xa5]);
+// Other bits of the same sum.
+const TURNED: Stem = Stem::Bytes(&[0x32, 0x5f, 0x7d, 0xa5]);
+
+// Nothing changes, so the joined cell is the new root.
+const SAME_SPLIT: [Cell; 2] = [
+    Cell(10, Stem::Update(0xc4, 0xc4, 1, 1), &[1, 1]),
+    Cell(40, Stem::PrunedAbove(1, 0xc4), &[]),
+];
+
+const MERGES: [Merge; 5] = [
+    Merge {
+        cells: &SAME_SPLIT,
+        left: LEFT,
+        right: RIGHT,
+        faces: &[],
+        below: &[],
+        root: Shown::Whole(0xc4, 1),
+        listed: &[0xc4],
+    },
+    // Another root over both states, of which the split cell is no part.
+    Merge {
+        cells: &[
+            Cell(10, Stem::Update(0xc4, 0x1b, 1, 1), &[1, 2]),
+            Cell(34, TAG, &[3, 4]),
+            Cell(34, Stem::Bytes(&[0x10]), &[3, 4]),
+            Cell(40, Stem::Pruned(1, 3), &[]),
+            Cell(40, Stem::Pruned(1, 4), &[]),
+        ],
+        left: LEFT,
+        right: RIGHT,
+        faces: &[],
+        below: &[],
+        root: Shown::Whole(0x1b, 1),
+        listed: &[0x1b],
+    },
+    // A root over the split cell.
+    Merge {
+        cells: &[
+            Cell(10, Stem::Update(0xc4, 0xd8, 1, 2), &[2, 1]),
+            Cell(33, Stem::Bytes(&[0x10]), &[2]),
+            Cell(40, Stem::PrunedAbove(1, 0xc4), &[]),
+        ],
+        left: LEFT,
+        right: RIGHT,
+        faces: &[],
+        below: &[],
+        root: Shown::Whole(0xd8, 2),
+        listed: &[0xd8, 0xc4],
+    },
+    // The states of the bytes 01 and 41, whose joined cell has the hash of the left one: each is compared with its own
+    // face.
+    Merge {
+        cells: &[
+            Cell(10, Stem::Update(3, 0x5a, 1, 1), &[1, 2]),
+            Cell(34, TAG, &[3, 4]),
+            Cell(34, Stem::Bytes(&[0x10]), &[5, 4]),
+            Cell(0, Stem::Bytes(&[1]), &[]),
+            Cell(40, Stem::Pruned(1, 0x43), &[]),
+            Cell(40, Stem::Pruned(1, 3), &[]),
+        ],
+        left: LEFT,
+        right: Shown::Whole(0x43, 0),
+        faces: &[Some(BYTE)],
+        below: &[3],
+        root: Shown::Whole(0x5a, 1),
+        listed: &[0x5a],
+    },
+    // A new cell that has the hash of the split cell, which isn't listed.
+    Merge {
+        cells: &[
+            Cell(10, Stem::Update(0xc4, 0x9e, 1, 2), &[1, 2]),
+            Cell(34, TAG, &[5, 6]),
+            Cell(34, Stem::Bytes(&[0x10]), &[3, 3]),
+            Cell(34, TURNED, &[4, 6]),
+            Cell(0, Stem::Bytes(&[1]), &[]),
+            Cell(40, Stem::Pruned(1, 3), &[]),
+            Cell(40, Stem::Pruned(1, 4), &[]),
+        ],
+        left: LEFT,
+        right: RIGHT,
+        faces: &[],
+        below: &[],
+        root: Shown::Whole(0x9e, 2),
+        listed: &[0x9e, 0xc4, 3],
+    },
+];
+
+fn check_merge(rt: &impl Abort, alloc: Global, row: &Merge) -> Result<(), Fail> {
+    let bag = bag_of(alloc, 1, row.cells)?;
+    let update = Update::of(&bag)?;
+    let faces = found_of(alloc, row.faces)?;
+    let left = info_of(row.left);
+    let right = info_of(row.right);
+    assert!(rt; update.wanted_below(alloc)? == hashes_of(alloc, row.below)?);
+    let value = prepare_merged(alloc, &update, &left, &right, &faces)?;
+    let split = face_info::<WeakSum>(&split_face(&left, &right));
+    assert!(rt; value.old() == Some(split.rep()));
+    assert!(rt; *value.root() == info_of(row.root));
+    assert!(rt; hashes_in(alloc, value.cells())? == hashes_of(alloc, row.listed)?);
+    Ok(())
+}
+
+#[test]
+fn what_updates_of_merged_blocks_bring(rt: HostRuntime) -> Result<(), Fail> {
+    let alloc = rt.alloc();
+    for row in &MERGES {
+        check_merge(&rt, alloc, row)?;
+    }
+    Ok(())
+}
+
+// An update over two states, and its fault.
+struct Unmerged {
+    cells: &'static [Cell],
+    left: Shown,
+    right: Shown,
+    due: Due,
+}
+
+const UNMERGED: [Unmerged; 7] = [
+    // A depth of 1024 on the left or on the right is too much, and one of 1023 isn't.
+    Unmerged {
+        cells: &SAME_SPLIT,
+        left: Shown::Whole(3, 1024),
+        right: RIGHT,
+        due: Due::SplitDeep(1025),
+    },
+    Unmerged {
+        cells: &SAME_SPLIT,
+        left: LEFT,
+        right: Shown::Whole(4, 1024),
+        due: Due::SplitDeep(1025),
+    },
+    Unmerged {
+        cells: &SAME_SPLIT,
+        left: Shown::Whole(3, 1023),
+        right: RIGHT,
+        due: Due::OldHash(0xc4, 0xc6),
+    },
+    Unmerged {
+        cells: &SAME_SPLIT,
+        left: LEFT,
+        right: Shown::Whole(4, 1023),
+        due: Due::OldHash(0xc4, 0xc6),
+    },
+    // Other bits of the split cell's hash.
+    Unmerged {
+        cells: &[
+            Cell(10, Stem::Update(0xc4, 0x1b, 1, 1), &[1, 2]),
+            Cell(34, TURNED, &[3, 4]),
+            Cell(34, Stem::Bytes(&[0x10]), &[3, 4]),
+            Cell(40, Stem::Pruned(1, 3), &[]),
+            Cell(40, Stem::Pruned(1, 4), &[]),
+        ],
+        left: LEFT,
+        right: RIGHT,
+        due: Due::OldHalf(
+            0xc4,
+            Shape(false, TAG, 32, &[LEFT, RIGHT]),
+            Shape(
+                false,
+                TURNED,
+                32,
+                &[Shown::Hidden(3, 117), Shown::Hidden(4, 118)],
+            ),
+        ),
+    },
+    // A state that the old half doesn't meet.
+    Unmerged {
+        cells: &[
+            Cell(10, Stem::Update(0xc4, 0x16, 1, 1), &[1, 2]),
+            Cell(40, Stem::PrunedAbove(1, 0xc4), &[]),
+            Cell(33, Stem::Bytes(&[0x10]), &[3]),
+            Cell(40, Stem::Pruned(1, 3), &[]),
+        ],
+        left: LEFT,
+        right: RIGHT,
+        due: Due::Foreign(3),
+    },
+    // A new cell that has the hash of the split cell, which is listed beside it.
+    Unmerged {
+        cells: &[
+            Cell(10, Stem::Update(0xc4, 0x9e, 1, 2), &[1, 2]),
+            Cell(34, TAG, &[6, 7]),
+            Cell(34, Stem::Bytes(&[0x10]), &[3, 4]),
+            Cell(40, Stem::PrunedAbove(1, 0xc4), &[]),
+            Cell(34, TURNED, &[5, 7]),
+            Cell(0, Stem::Bytes(&[1]), &[]),
+            Cell(40, Stem::Pruned(1, 3), &[]),
+            Cell(40, Stem::Pruned(1, 4), &[]),
+        ],
+        left: LEFT,
+        right: RIGHT,
+        due: Due::NewClash(0xc4),
+    },
+];
+
+fn check_unmerged(rt: &impl Abort, alloc: Global, row: &Unmerged) -> Result<(), Fail> {
+    let bag = bag_of(alloc, 1, row.cells)?;
+    let update = Update::of(&bag)?;
+    let left = info_of(row.left);
+    let right = info_of(row.right);
+    let due = fault_of(alloc, &row.due)?;
+    assert!(rt; prepare_merged(alloc, &update, &left, &right, &[]).err() == Some(due));
+    Ok(())
+}
+
+#[test]
+fn what_is_refused_of_merged_blocks(rt: HostRuntime) -> Result<(), Fail> {
+    let alloc = rt.alloc();
+    for row in &UNMERGED {
+        check_unmerged(&rt, alloc, row)?;
+    }
+    Ok(())
+}
+
+// ---- bags that have no update
 
 // The number of roots, the cells, and the fault.
 const NO_UPDATES: [(u16, &[Cell], UpdateFault); 3] = [
@@ -730,6 +973,10 @@ fn each_fault_of_preparing_has_a_text(rt: HostRuntime) -> Result<(), Fail> {
         ),
         (Due::Foreign(1), "the new half hides an unknown cell"),
         (Due::NewClash(1), "two new cells of one hash"),
+        (
+            Due::SplitDeep(1025),
+            "two states that join to a depth of 1025",
+        ),
     ];
     for (due, text) in texts {
         check_text(&rt, alloc, &fault_of(alloc, &due)?, text)?;
