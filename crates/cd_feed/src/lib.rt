@@ -3,6 +3,9 @@
 
 mod feed;
 mod feed_fault;
+mod fields;
+mod reading;
+mod tasks;
 
 pub use feed::{Bytes, Feed, Phase, Phases, Task, Tasks, Workers};
 pub use feed_fault::FeedFault;

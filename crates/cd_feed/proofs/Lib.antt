@@ -1,0 +1,2 @@
+pub mod FeedFields
+pub mod FeedLoops
