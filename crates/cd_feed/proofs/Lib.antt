@@ -1,2 +1,4 @@
 pub mod FeedFields
 pub mod FeedLoops
+pub mod FieldLaws
+pub mod TaskLaws

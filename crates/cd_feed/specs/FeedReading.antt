@@ -144,11 +144,21 @@ worker_at total phase worker rest = do
   count ← limited_at total 2 0 4096 rest.bytes
   tasks_at total phase worker count.0 (record { served = rest.served; bytes = count.1 })
 
+-- so many workers of a phase
+abbrev pub workers_at : ℕ → ℕ → ℕ → Rest → Result (List (List Task) × Rest) FeedFault
+workers_at total phase count rest = each_from (worker_at total phase) 0 count rest
+
 unfoldable pub phase_at : ℕ → ℕ → Rest → Result (Phase × Rest) FeedFault
 phase_at total phase rest = do
   count ← limited_at total 2 1 16 rest.bytes
-  workers ← each_from (worker_at total phase) 0 count.0 (record { served = rest.served; bytes = count.1 })
+  workers ← workers_at total phase count.0 (record { served = rest.served; bytes = count.1 })
   Ok (record { workers = workers.0 }, workers.1)
+
+-- so many phases, before which no Serve stood
+abbrev pub phases_at : ℕ → ℕ → List ℕ → Result (List Phase × List ℕ) FeedFault
+phases_at total count bytes = do
+  phases ← each_from (phase_at total) 0 count (record { served = false; bytes = bytes })
+  Ok (phases.0, phases.1.bytes)
 
 -- all of the bytes
 unfoldable pub feed_in : List ℕ → Result Feed FeedFault
@@ -156,7 +166,5 @@ feed_in bytes = do
   magic ← number_at (Cut (length bytes)) 4 bytes
   known ← require (magic.0 == 0x63646631) Magic
   count ← limited_at (length bytes) 2 0 4096 magic.1
-  phases ← each_from (phase_at (length bytes)) 0 count.0 (record { served = false; bytes = count.1 })
-  if length phases.1.bytes == 0
-      then Ok (record { phases = phases.0 })
-      else Err (Extra (length bytes - length phases.1.bytes))
+  phases ← phases_at (length bytes) count.0 count.1
+  if length phases.1 == 0 then Ok (record { phases = phases.0 }) else Err (Extra (length bytes - length phases.1))
