@@ -2,3 +2,4 @@ pub mod FeedFields
 pub mod FeedLoops
 pub mod FieldLaws
 pub mod TaskLaws
+pub mod FeedLaws

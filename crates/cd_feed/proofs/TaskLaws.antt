@@ -140,3 +140,118 @@ fields_takes total fault kind bytes x fits e =
     by_kind kind 5 bytes _ _ x (slice_takes total fault bytes x fits) (
     by_kind kind 6 bytes _ _ x (serve_takes total fault bytes x fits) (
     by_kind kind 7 bytes _ _ x (merged_takes total fault bytes x fits) (λ none. absurd cc))))))) e
+
+-- ---- what is left behind a value, by the Serves that it has
+
+unfoldable pub bit : Bool → ℕ
+bit false = 0
+bit true = 1
+
+unfoldable pub served_after : Bool → ℕ → Bool
+served_after served zero = served
+served_after served (suc n) = true
+
+-- a value that was read: its text, its Serves, and what is so of it
+pub record Reads {X : Type 0} (text : X → List ℕ) (serves : X → ℕ) (P : X → Type 0) (before : Rest) (x : X) (after : Rest) : Type 0 where
+  pub takes : Takes before.bytes (text x) after.bytes
+  pub served : bit after.served ≡ bit before.served + serves x
+  pub holds : P x
+
+abbrev pub IsGoodTask : Task → Type 0
+IsGoodTask task = IsTask task × IsTaskFit task
+
+abbrev pub task_serves : Task → ℕ
+task_serves task = cond (is_serve task) 1 0
+
+bit_or : (served is : Bool) → not (is && served) ≡ true → bit (served || is) ≡ bit served + cond is 1 0
+unfolding bit
+bit_or false false e = refl
+bit_or false true e = refl
+bit_or true false e = refl
+bit_or true true e = absurd cc
+
+pub task_takes : (total : ℕ) (fault : FeedFault) (before : Rest) (x : Task × Rest) → IsBytes before.bytes → task_at total fault before ≡ Ok x → Reads task_text task_serves IsGoodTask before x.0 x.1
+unfolding task_at
+task_takes total fault before x fits e =
+    by_ok (byte_at (Cut total) before.bytes) _ x e (λ kind e0 k0.
+    by_test (not (eqb kind.0 6 && before.served)) fault _ x k0 (λ free k1.
+    by_ok (fields_at total fault kind.0 kind.1) _ x k1 (λ task e2 k2.
+    let b = byte_takes (Cut total) before.bytes kind fits e0 in
+    let r = fields_takes total fault kind.0 kind.1 task b.rest_fits e2 in
+    let takes : Takes before.bytes (task_text task.0) task.1 = subst (λ (w : List ℕ). Takes w (task_text task.0) task.1) (sym b.parts) r.takes in
+    let served : bit (before.served || eqb kind.0 6) ≡ bit before.served + task_serves task.0 = bit_or before.served (eqb kind.0 6) free ∙ ap (λ is. bit before.served + cond is 1 0) (sym r.serves) in
+    subst (λ (y : Task × Rest). Reads task_text task_serves IsGoodTask before y.0 y.1) (ok_is (task.0, record { served = before.served || eqb kind.0 6; bytes = task.1 }) x k2)
+    (record { takes = takes; served = served; holds = (r.known, r.fit) }))))
+
+-- ---- what was written is read again
+
+or_none : (b : Bool) → (b || false) ≡ b
+or_none true = refl
+or_none false = refl
+
+abbrev pub IsReadAgain : Task → Type 0
+IsReadAgain task = (total : ℕ) (fault : FeedFault) (served : Bool) (rest : List ℕ) → IsTask task → IsTaskFit task → bit served + task_serves task ≤ 1
+    → task_at total fault (record { served = served; bytes = task_text task ++ rest }) ≡ Ok (task, record { served = served_after served (task_serves task); bytes = rest })
+
+zero_again : (id : BlockId) (tops : List BlockId) (bag : List ℕ) → IsReadAgain (Zero id tops bag)
+unfolding task_at byte_at fields_at zero_at task_text is_serve IsTask IsTaskFit served_after
+zero_again id tops bag total fault served rest known fit once =
+    let grouped : (key_of id ++ (ids_text tops ++ bag_text bag)) ++ rest ≡ key_of id ++ (ids_text tops ++ (bag_text bag ++ rest)) = simp append_assoc in
+    rw (grouped, id_again total id (ids_text tops ++ (bag_text bag ++ rest)) known.0, tops_again total fault id tops (bag_text bag ++ rest) fit.0 known.1, bag_again total bag rest fit.1, or_none served) refl
+
+block_again : (id parent : BlockId) (tops : List BlockId) (bag : List ℕ) → IsReadAgain (Block id parent tops bag)
+unfolding task_at byte_at fields_at block_at task_text is_serve IsTask IsTaskFit served_after
+block_again id parent tops bag total fault served rest known fit once =
+    let grouped : (key_of id ++ (key_of parent ++ (ids_text tops ++ bag_text bag))) ++ rest ≡ key_of id ++ (key_of parent ++ (ids_text tops ++ (bag_text bag ++ rest))) = simp append_assoc in
+    rw (
+      grouped,
+      id_again total id (key_of parent ++ (ids_text tops ++ (bag_text bag ++ rest))) known.0,
+      id_again total parent (ids_text tops ++ (bag_text bag ++ rest)) known.1,
+      tops_again total fault id tops (bag_text bag ++ rest) fit.0 known.2,
+      bag_again total bag rest fit.1,
+      or_none served,
+    ) refl
+
+expire_again : (id : BlockId) → IsReadAgain (Expire id)
+unfolding task_at byte_at fields_at expire_at task_text is_serve IsTask IsTaskFit served_after
+expire_again id total fault served rest known fit once = rw (id_again total id rest known, or_none served) refl
+
+read_again : (id : BlockId) (path : List ℕ) → IsReadAgain (Read id path)
+unfolding task_at byte_at fields_at read_at task_text is_serve IsTask IsTaskFit served_after
+read_again id path total fault served rest known fit once =
+    rw (append_assoc (key_of id) (path_text path) rest, id_again total id (path_text path ++ rest) known, path_again total fault path rest fit, or_none served) refl
+
+slice_again : (id : BlockId) (max : ℕ) → IsReadAgain (Slice id max)
+unfolding task_at byte_at fields_at slice_at task_text is_serve IsTask IsTaskFit served_after
+slice_again id max total fault served rest known fit once =
+    rw (append_assoc (key_of id) (big 4 max) rest, id_again total id (big 4 max ++ rest) known, max_again total fault max rest fit, or_none served) refl
+
+serve_again : (id : BlockId) (max : ℕ) → IsReadAgain (Serve id max)
+unfolding task_at byte_at fields_at serve_at task_text is_serve IsTask IsTaskFit served_after bit
+serve_again id max total fault true rest known fit once = absurd (omega arith)
+serve_again id max total fault false rest known fit once =
+    rw (append_assoc (key_of id) (big 4 max) rest, id_again total id (big 4 max ++ rest) known, max_again total fault max rest fit) refl
+
+merged_again : (id left right : BlockId) (tops : List BlockId) (bag : List ℕ) → IsReadAgain (Merged id left right tops bag)
+unfolding task_at byte_at fields_at merged_at task_text is_serve IsTask IsTaskFit served_after
+merged_again id left right tops bag total fault served rest known fit once =
+    let grouped : (key_of id ++ (key_of left ++ (key_of right ++ (ids_text tops ++ bag_text bag)))) ++ rest
+      ≡ key_of id ++ (key_of left ++ (key_of right ++ (ids_text tops ++ (bag_text bag ++ rest)))) = simp append_assoc in
+    rw (
+      grouped,
+      id_again total id (key_of left ++ (key_of right ++ (ids_text tops ++ (bag_text bag ++ rest)))) known.0,
+      id_again total left (key_of right ++ (ids_text tops ++ (bag_text bag ++ rest))) known.1,
+      id_again total right (ids_text tops ++ (bag_text bag ++ rest)) known.2,
+      tops_again total fault id tops (bag_text bag ++ rest) fit.0 known.3,
+      bag_again total bag rest fit.1,
+      or_none served,
+    ) refl
+
+pub task_again : (task : Task) → IsReadAgain task
+task_again (Zero id tops bag) = zero_again id tops bag
+task_again (Block id parent tops bag) = block_again id parent tops bag
+task_again (Expire id) = expire_again id
+task_again (Read id path) = read_again id path
+task_again (Slice id max) = slice_again id max
+task_again (Serve id max) = serve_again id max
+task_again (Merged id left right tops bag) = merged_again id left right tops bag

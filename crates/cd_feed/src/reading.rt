@@ -138,3 +138,19 @@ fn feed_in(alloc: Global, bytes: &[u8]) -> Result<Feed, FeedFault>
         Err(fault) => Err(fault),
     }
 }
+
+/// Reads a feed. Each bag and path in it is copied once, and no more room is taken for a list than the bytes that
+/// are left can fill.
+pub fn read_feed(alloc: Global, bytes: &[u8]) -> Result<Feed, FeedFault>
+    // What is read is spelled so.
+    ensures found { IfOk result (λ feed. IsFeed feed × IsFeedFit feed × (bytes.now ≡ feed_text feed)) }
+
+    // What is spelled so is read, unless memory runs out.
+    ensures only { (feed : Feed) → IsFeed feed → IsFeedFit feed → bytes.now ≡ feed_text feed
+        → GivesUnless Memory (λ f. f) result (Ok feed) }
+
+    // Which fault it is.
+    ensures exact { GivesUnless Memory (λ f. f) result (spec.feed_in bytes.now) }
+{
+    feed_in(alloc, bytes)
+}

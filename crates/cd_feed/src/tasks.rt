@@ -10,13 +10,13 @@ use cd_base::byte_at;
 use cd_block::BlockIds;
 use std::alloc::Global;
 
-const ZERO: u8 = 1;
-const BLOCK: u8 = 2;
-const EXPIRE: u8 = 3;
-const READ: u8 = 4;
-const SLICE: u8 = 5;
-const SERVE: u8 = 6;
-const MERGED: u8 = 7;
+pub const ZERO: u8 = 1;
+pub const BLOCK: u8 = 2;
+pub const EXPIRE: u8 = 3;
+pub const READ: u8 = 4;
+pub const SLICE: u8 = 5;
+pub const SERVE: u8 = 6;
+pub const MERGED: u8 = 7;
 
 #[tactic(auto, unfolding(crate::specs::FeedReading::zero_at))]
 fn zero_at(alloc: Global, total: usize, fault: FeedFault, bytes: &[u8]) -> Result<(Task, &[u8]), FeedFault>
