@@ -65,15 +65,17 @@ module _ {X : Type 0} (one : ℕ → Rest → Result (X × Rest) FeedFault) (tex
       let t = step i before first fits e0 in
       let o = from_takes step count (i + 1) first.1 others t.takes.rest_fits e1 in
       let both = Takes-then before.bytes (text first.0) first.1.bytes (flat_map text others.0) others.1.bytes t.takes o.0.takes in
-      subst (ReadsAll before (suc count)) (ok_is (first.0 ∷ others.0, others.1) x k1)
-      (record {
-        takes = rw flat_map-cons both;
-        served = rw (sum_by-cons serves first.0 others.0) (omega (arith, t.served, o.0.served));
-        holds = (t.holds, o.0.holds);
-      }, ap suc o.1)))
+      subst (ReadsAll before (suc count)) (ok_is (first.0 ∷ others.0, others.1) x k1) (
+        record {
+          takes = rw flat_map-cons both;
+          served = rw (sum_by-cons serves first.0 others.0) (omega (arith, t.served, o.0.served));
+          holds = (t.holds, o.0.holds);
+        },
+        ap suc o.1,
+      )))
 
   pub from_again : ((i : ℕ) (served : Bool) (x : X) (rest : List ℕ) → P x → bit served + serves x ≤ 1
-        → one i (record { served = served; bytes = text x ++ rest }) ≡ Ok (x, record { served = served_after served (serves x); bytes = rest }))
+      → one i (record { served = served; bytes = text x ++ rest }) ≡ Ok (x, record { served = served_after served (serves x); bytes = rest }))
       → (xs : List X) (i : ℕ) (served : Bool) (rest : List ℕ) → AllByRecursion P xs → bit served + sum_by serves xs ≤ 1
       → each_from one i (length xs) (record { served = served; bytes = flat_map text xs ++ rest }) ≡ Ok (xs, record { served = served_after served (sum_by serves xs); bytes = rest })
   unfolding each_from served_after
@@ -98,7 +100,7 @@ worker_takes total phase worker before x fits e =
     by_ok (limited_at total 2 0 4096 before.bytes) _ x e (λ count e0 k0.
     let t = within_takes (Cut total) _ 2 0 4096 before.bytes count fits e0 in
     let o = from_takes (λ task. task_at total (TaskFault phase worker task)) task_text task_serves IsGoodTask (λ task. task_takes total (TaskFault phase worker task))
-      count.0 0 (record { served = before.served; bytes = count.1 }) x t.0.rest_fits k0 in
+    count.0 0 (record { served = before.served; bytes = count.1 }) x t.0.rest_fits k0 in
     let number = Takes-same before.bytes (big 2 count.0) (big 2 (length x.0)) count.1 (ap (big 2) (sym o.1)) t.0 in
     let parts = both_parts IsTask IsTaskFit x.0 o.0.holds in
     record {
@@ -111,11 +113,13 @@ worker_again : (total phase worker : ℕ) (served : Bool) (tasks : List Task) (r
     → worker_at total phase worker (record { served = served; bytes = worker_text tasks ++ rest }) ≡ Ok (tasks, record { served = served_after served (worker_serves tasks); bytes = rest })
 unfolding worker_at worker_text worker_serves
 worker_again total phase worker served tasks rest good once =
-    rw (append_assoc (big 2 (length tasks)) (flat_map task_text tasks) rest,
-      within_again (Cut total) (Limit (total - length (big 2 (length tasks) ++ (flat_map task_text tasks ++ rest)))) 2 0 4096 (length tasks) (flat_map task_text tasks ++ rest) (omega (arith, good.1.few)) (omega arith) good.1.few)
+    rw (
+      append_assoc (big 2 (length tasks)) (flat_map task_text tasks) rest,
+      within_again (Cut total) (Limit (total - length (big 2 (length tasks) ++ (flat_map task_text tasks ++ rest)))) 2 0 4096 (length tasks) (flat_map task_text tasks ++ rest) (omega (arith, good.1.few)) (omega arith) good.1.few,
+    )
     (from_again (λ task. task_at total (TaskFault phase worker task)) task_text task_serves IsGoodTask
-      (λ task seen x behind holds le. task_again x total (TaskFault phase worker task) seen behind holds.0 holds.1 le)
-      tasks 0 served rest (both_from IsTask IsTaskFit tasks good.0 good.1.tasks) once)
+    (λ task seen x behind holds le. task_again x total (TaskFault phase worker task) seen behind holds.0 holds.1 le)
+    tasks 0 served rest (both_from IsTask IsTaskFit tasks good.0 good.1.tasks) once)
 
 -- ---- phases
 
@@ -130,7 +134,7 @@ phase_takes total phase before x fits e =
     by_ok (workers_at total phase count.0 (record { served = before.served; bytes = count.1 })) _ x k0 (λ workers e1 k1.
     let t = within_takes (Cut total) _ 2 1 16 before.bytes count fits e0 in
     let o = from_takes (worker_at total phase) worker_text worker_serves IsGoodWorker (worker_takes total phase)
-      count.0 0 (record { served = before.served; bytes = count.1 }) workers t.0.rest_fits e1 in
+    count.0 0 (record { served = before.served; bytes = count.1 }) workers t.0.rest_fits e1 in
     let number = Takes-same before.bytes (big 2 count.0) (big 2 (length workers.0)) count.1 (ap (big 2) (sym o.1)) t.0 in
     let parts = both_parts (AllByRecursion IsTask) IsWorkerFit workers.0 o.0.holds in
     subst (λ (y : Phase × Rest). Reads phase_text phase_serves IsGoodPhase before y.0 y.1) (ok_is (record { workers = workers.0 }, workers.1) x k1)
@@ -144,10 +148,12 @@ phase_again : (total phase : ℕ) (served : Bool) (p : Phase) (rest : List ℕ) 
     → phase_at total phase (record { served = served; bytes = phase_text p ++ rest }) ≡ Ok (p, record { served = served_after served (phase_serves p); bytes = rest })
 unfolding phase_at phase_text phase_serves IsPhase
 phase_again total phase served p rest good once =
-    rw (append_assoc (big 2 (length p.workers)) (flat_map worker_text p.workers) rest,
+    rw (
+      append_assoc (big 2 (length p.workers)) (flat_map worker_text p.workers) rest,
       within_again (Cut total) (Limit (total - length (big 2 (length p.workers) ++ (flat_map worker_text p.workers ++ rest)))) 2 1 16 (length p.workers) (flat_map worker_text p.workers ++ rest) (omega (arith, good.1.few)) good.1.some good.1.few,
       from_again (worker_at total phase) worker_text worker_serves IsGoodWorker (worker_again total phase)
-      p.workers 0 served rest (both_from (AllByRecursion IsTask) IsWorkerFit p.workers good.0 good.1.workers) once)
+          p.workers 0 served rest (both_from (AllByRecursion IsTask) IsWorkerFit p.workers good.0 good.1.workers) once,
+    )
     refl
 
 -- ---- feeds
@@ -165,7 +171,7 @@ feed_takes bytes f fits e =
     let t = number_takes (Cut (length bytes)) 4 bytes magic fits e0 in
     let u = within_takes (Cut (length bytes)) _ 2 0 4096 magic.1 count t.0.rest_fits e1 in
     let o = from_takes (phase_at (length bytes)) phase_text phase_serves IsGoodPhase (phase_takes (length bytes))
-      count.0 0 (record { served = false; bytes = count.1 }) read u.0.rest_fits e3 in
+    count.0 0 (record { served = false; bytes = count.1 }) read u.0.rest_fits e3 in
     let nothing : read.1.bytes ≡ [] = ap (λ x. x.1) is ∙ nil_from_length phases.1 (eqb-true _ _ g.0) in
     let number = Takes-same magic.1 (big 2 count.0) (big 2 (length read.0)) count.1 (ap (big 2) (sym o.1)) u.0 in
     let behind = Takes-then magic.1 (big 2 (length read.0)) count.1 (flat_map phase_text read.0) read.1.bytes number o.0.takes in

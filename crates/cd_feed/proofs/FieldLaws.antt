@@ -126,9 +126,10 @@ unfolding path_at path_text
 path_takes total fault bytes x fits e =
     by_ok (limited_at total 1 0 64 bytes) _ x e (λ len e0 k0.
     let t = within_takes (Cut total) (Limit (total - length bytes)) 1 0 64 bytes len fits e0 in
-    let o = each_takes (within_at (Cut total) fault 1 0 3) (big 1) (λ step. step ≤ 3) (step_takes (Cut total) fault) len.0 len.1 x t.0.rest_fits k0 in
-    (counted bytes len.1 x.1 x.0 (length x.0) len.0 (omega (arith, t.2)) o.1 t.0 (Takes-same len.1 (flat_map (big 1) x.0) x.0 x.1 (steps_are x.0 o.2) o.0),
-      record { short = omega (arith, o.1, t.2); steps = o.2 }))
+    let o = each_takes (within_at (Cut total) fault 1 0 3) (big 1) (λ step. step ≤ 3) (step_takes (Cut total) fault) len.0 len.1 x t.0.rest_fits k0 in (
+      counted bytes len.1 x.1 x.0 (length x.0) len.0 (omega (arith, t.2)) o.1 t.0 (Takes-same len.1 (flat_map (big 1) x.0) x.0 x.1 (steps_are x.0 o.2) o.0),
+      record { short = omega (arith, o.1, t.2); steps = o.2 },
+    ))
 
 step_again : (cut fault : FeedFault) (step : ℕ) (rest : List ℕ) → step ≤ 3 → within_at cut fault 1 0 3 (big 1 step ++ rest) ≡ Ok (step, rest)
 step_again cut fault step rest le = within_again cut fault 1 0 3 step rest (omega arith) (omega arith) le

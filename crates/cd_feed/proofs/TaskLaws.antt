@@ -61,7 +61,7 @@ block_takes total fault bytes x fits e =
     let u = tops_takes total fault id.0 parent.1 tops p.0.rest_fits e2 in
     let v = bag_takes total tops.1 bag u.0.rest_fits e3 in
     let text = Takes-then bytes (key_of id.0) id.1 _ bag.1 t.0 (Takes-then id.1 (key_of parent.0) parent.1 _ bag.1 p.0
-      (Takes-then parent.1 (ids_text tops.0) tops.1 (bag_text bag.0) bag.1 u.0 v.0)) in
+    (Takes-then parent.1 (ids_text tops.0) tops.1 (bag_text bag.0) bag.1 u.0 v.0)) in
     subst (IsReadPair 2 bytes) (ok_is (Block id.0 parent.0 tops.0 bag.0, bag.1) x k3)
     (record { takes = Takes-cons 2 bytes _ bag.1 (omega arith) text; known = (t.1, p.1, u.2); fit = (u.1, v.1); serves = refl })))))
 
@@ -117,7 +117,7 @@ merged_takes total fault bytes x fits e =
     let u = tops_takes total fault id.0 right.1 tops r.0.rest_fits e3 in
     let v = bag_takes total tops.1 bag u.0.rest_fits e4 in
     let text = Takes-then bytes (key_of id.0) id.1 _ bag.1 t.0 (Takes-then id.1 (key_of left.0) left.1 _ bag.1 l.0 (Takes-then left.1 (key_of right.0) right.1 _ bag.1 r.0
-      (Takes-then right.1 (ids_text tops.0) tops.1 (bag_text bag.0) bag.1 u.0 v.0))) in
+    (Takes-then right.1 (ids_text tops.0) tops.1 (bag_text bag.0) bag.1 u.0 v.0))) in
     subst (IsReadPair 7 bytes) (ok_is (Merged id.0 left.0 right.0 tops.0 bag.0, bag.1) x k4)
     (record { takes = Takes-cons 7 bytes _ bag.1 (omega arith) text; known = (t.1, l.1, r.1, u.2); fit = (u.1, v.1); serves = refl }))))))
 
@@ -236,7 +236,7 @@ merged_again : (id left right : BlockId) (tops : List BlockId) (bag : List ℕ) 
 unfolding task_at byte_at fields_at merged_at task_text is_serve IsTask IsTaskFit served_after
 merged_again id left right tops bag total fault served rest known fit once =
     let grouped : (key_of id ++ (key_of left ++ (key_of right ++ (ids_text tops ++ bag_text bag)))) ++ rest
-      ≡ key_of id ++ (key_of left ++ (key_of right ++ (ids_text tops ++ (bag_text bag ++ rest)))) = simp append_assoc in
+    ≡ key_of id ++ (key_of left ++ (key_of right ++ (ids_text tops ++ (bag_text bag ++ rest)))) = simp append_assoc in
     rw (
       grouped,
       id_again total id (key_of left ++ (key_of right ++ (ids_text tops ++ (bag_text bag ++ rest)))) known.0,

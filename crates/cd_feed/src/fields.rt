@@ -20,7 +20,14 @@ pub fn cut(total: usize) -> FeedFault
 
 /// A number in so many bytes, from the least to the most that it may be; else the fault.
 #[tactic(auto, unfolding(crate::specs::FeedReading::within_at))]
-pub fn within_at(cut: FeedFault, fault: FeedFault, len: u8, least: u64, most: u64, bytes: &[u8]) -> Result<(u64, &[u8]), FeedFault>
+pub fn within_at(
+    cut: FeedFault,
+    fault: FeedFault,
+    len: u8,
+    least: u64,
+    most: u64,
+    bytes: &[u8],
+) -> Result<(u64, &[u8]), FeedFault>
     requires { len ≤ 8 }
     ensures exact { Gives (λ x. (x.0, x.1.now)) result (spec.within_at cut fault len least most bytes.now) }
     ensures most { IfOk result (λ x. x.0 ≤ most) }
@@ -37,7 +44,13 @@ pub fn within_at(cut: FeedFault, fault: FeedFault, len: u8, least: u64, most: u6
 }
 
 /// The same, where the fault is a limit passed at the field's place.
-pub fn limited_at(total: usize, len: u8, least: u64, most: u64, bytes: &[u8]) -> Result<(u64, &[u8]), FeedFault>
+pub fn limited_at(
+    total: usize,
+    len: u8,
+    least: u64,
+    most: u64,
+    bytes: &[u8],
+) -> Result<(u64, &[u8]), FeedFault>
     requires len { len ≤ 8 }
     requires within { length bytes.now ≤ total }
     ensures exact { Gives (λ x. (x.0, x.1.now)) result (spec.limited_at total len least most bytes.now) }
@@ -64,11 +77,20 @@ pub fn room(count: u64, bytes: &[u8], least: usize) -> usize
     ensures { result ≤ length bytes.now }
 {
     let held = bytes.len() / least;
-    if (held as u64) < count { held } else { count as usize }
+    if (held as u64) < count {
+        held
+    } else {
+        count as usize
+    }
 }
 
 /// So many ids one behind another.
-fn ids_at(alloc: Global, total: usize, count: u64, bytes: &[u8]) -> Result<(Vec<BlockId>, &[u8]), FeedFault>
+fn ids_at(
+    alloc: Global,
+    total: usize,
+    count: u64,
+    bytes: &[u8],
+) -> Result<(Vec<BlockId>, &[u8]), FeedFault>
     ensures exact { GivesUnless Memory (λ x. (x.0.items, x.1.now)) result (each_at (spec.id_at total) count bytes.now) }
     ensures rest { IfOk result (λ x. length x.1.now ≤ length bytes.now) }
 {
@@ -84,7 +106,13 @@ fn ids_at(alloc: Global, total: usize, count: u64, bytes: &[u8]) -> Result<(Vec<
 
 /// The tops of a block, which only one of the masterchain may have.
 #[tactic(auto, unfolding(crate::specs::FeedReading::tops_at))]
-pub fn tops_at<'a>(alloc: Global, total: usize, fault: FeedFault, id: &BlockId, bytes: &'a [u8]) -> Result<(Vec<BlockId>, &'a [u8]), FeedFault>
+pub fn tops_at<'a>(
+    alloc: Global,
+    total: usize,
+    fault: FeedFault,
+    id: &BlockId,
+    bytes: &'a [u8],
+) -> Result<(Vec<BlockId>, &'a [u8]), FeedFault>
     requires { length bytes.now ≤ total }
     ensures exact { GivesUnless Memory (λ x. (x.0.items, x.1.now)) result (spec.tops_at total fault id.now bytes.now) }
     ensures rest { IfOk result (λ x. length x.1.now ≤ length bytes.now) }
@@ -110,7 +138,12 @@ pub fn bag_at(alloc: Global, total: usize, bytes: &[u8]) -> Result<(Vec<u8>, &[u
 
 /// The steps of a path, each of which is a field.
 #[tactic(auto, unfolding(crate::specs::FeedReading::path_at))]
-pub fn path_at(alloc: Global, total: usize, fault: FeedFault, bytes: &[u8]) -> Result<(Vec<u8>, &[u8]), FeedFault>
+pub fn path_at(
+    alloc: Global,
+    total: usize,
+    fault: FeedFault,
+    bytes: &[u8],
+) -> Result<(Vec<u8>, &[u8]), FeedFault>
     requires { length bytes.now ≤ total }
     ensures exact { GivesUnless Memory (λ x. (x.0.items, x.1.now)) result (spec.path_at total fault bytes.now) }
     ensures rest { IfOk result (λ x. length x.1.now ≤ length bytes.now) }
@@ -120,7 +153,13 @@ pub fn path_at(alloc: Global, total: usize, fault: FeedFault, bytes: &[u8]) -> R
 }
 
 /// So many steps, each a place from 0 to 3.
-fn steps_at(alloc: Global, total: usize, fault: FeedFault, count: u64, bytes: &[u8]) -> Result<(Vec<u8>, &[u8]), FeedFault>
+fn steps_at(
+    alloc: Global,
+    total: usize,
+    fault: FeedFault,
+    count: u64,
+    bytes: &[u8],
+) -> Result<(Vec<u8>, &[u8]), FeedFault>
     ensures exact { GivesUnless Memory (λ x. (x.0.items, x.1.now)) result
         (each_at (spec.within_at (FeedFault.Cut total) fault 1 0 3) count bytes.now) }
     ensures rest { IfOk result (λ x. length x.1.now ≤ length bytes.now) }

@@ -13,3 +13,4 @@ pub use feed::{Bytes, Feed, Phase, Phases, Task, Tasks, Workers};
 pub use feed_fault::FeedFault;
 pub use laws::a_text_has_one_feed;
 pub use reading::read_feed;
+pub use writing::write_feed;

@@ -13,15 +13,25 @@ use cd_base::number_at;
 use std::alloc::Global;
 
 /// The ASCII text `cdf1`.
-const MAGIC: u64 = 0x6364_6631;
+pub const MAGIC: u64 = 0x6364_6631;
 
 /// The least bytes that a task, a worker and a phase take.
 const TASK_LEN: usize = 81;
+
 const WORKER_LEN: usize = 2;
+
 const PHASE_LEN: usize = 4;
 
 /// So many tasks of a worker, whether a Serve stood before their end, and the bytes behind them.
-fn tasks_at(alloc: Global, total: usize, phase: u16, worker: u16, count: u16, served: bool, bytes: &[u8]) -> Result<(Vec<Task>, bool, &[u8]), FeedFault>
+fn tasks_at(
+    alloc: Global,
+    total: usize,
+    phase: u16,
+    worker: u16,
+    count: u16,
+    served: bool,
+    bytes: &[u8],
+) -> Result<(Vec<Task>, bool, &[u8]), FeedFault>
     requires { length bytes.now ≤ total }
     ensures exact { GivesUnless Memory (λ x. (x.0.items, record { served = x.1; bytes = x.2.now })) result
         (spec.tasks_at total phase worker count (record { served = served; bytes = bytes.now })) }
@@ -31,7 +41,11 @@ fn tasks_at(alloc: Global, total: usize, phase: u16, worker: u16, count: u16, se
     let mut rest = bytes;
     let mut seen = served;
     for task in 0..count {
-        let fault = FeedFault::Task { phase, worker, task };
+        let fault = FeedFault::Task {
+            phase,
+            worker,
+            task,
+        };
         let (read, serves, after) = match task_at(alloc, total, fault, seen, rest) {
             Ok(found) => found,
             Err(fault) => return Err(fault),
@@ -45,7 +59,14 @@ fn tasks_at(alloc: Global, total: usize, phase: u16, worker: u16, count: u16, se
 
 /// The tasks of one worker.
 #[tactic(auto, unfolding(crate::specs::FeedReading::worker_at))]
-fn worker_at(alloc: Global, total: usize, phase: u16, worker: u16, served: bool, bytes: &[u8]) -> Result<(Tasks, bool, &[u8]), FeedFault>
+fn worker_at(
+    alloc: Global,
+    total: usize,
+    phase: u16,
+    worker: u16,
+    served: bool,
+    bytes: &[u8],
+) -> Result<(Tasks, bool, &[u8]), FeedFault>
     requires { length bytes.now ≤ total }
     ensures exact { GivesUnless Memory (λ x. (x.0, record { served = x.1; bytes = x.2.now })) result
         (spec.worker_at total phase worker (record { served = served; bytes = bytes.now })) }
@@ -59,7 +80,14 @@ fn worker_at(alloc: Global, total: usize, phase: u16, worker: u16, served: bool,
 }
 
 /// So many workers of a phase.
-fn workers_at(alloc: Global, total: usize, phase: u16, count: u16, served: bool, bytes: &[u8]) -> Result<(Vec<Tasks>, bool, &[u8]), FeedFault>
+fn workers_at(
+    alloc: Global,
+    total: usize,
+    phase: u16,
+    count: u16,
+    served: bool,
+    bytes: &[u8],
+) -> Result<(Vec<Tasks>, bool, &[u8]), FeedFault>
     requires { length bytes.now ≤ total }
     ensures exact { GivesUnless Memory (λ x. (x.0.items, record { served = x.1; bytes = x.2.now })) result
         (spec.workers_at total phase count (record { served = served; bytes = bytes.now })) }
@@ -82,7 +110,13 @@ fn workers_at(alloc: Global, total: usize, phase: u16, count: u16, served: bool,
 
 /// A phase.
 #[tactic(auto, unfolding(crate::specs::FeedReading::phase_at))]
-fn phase_at(alloc: Global, total: usize, phase: u16, served: bool, bytes: &[u8]) -> Result<(Phase, bool, &[u8]), FeedFault>
+fn phase_at(
+    alloc: Global,
+    total: usize,
+    phase: u16,
+    served: bool,
+    bytes: &[u8],
+) -> Result<(Phase, bool, &[u8]), FeedFault>
     requires { length bytes.now ≤ total }
     ensures exact { GivesUnless Memory (λ x. (x.0, record { served = x.1; bytes = x.2.now })) result
         (spec.phase_at total phase (record { served = served; bytes = bytes.now })) }
@@ -99,7 +133,12 @@ fn phase_at(alloc: Global, total: usize, phase: u16, served: bool, bytes: &[u8])
 }
 
 /// So many phases.
-fn phases_at(alloc: Global, total: usize, count: u16, bytes: &[u8]) -> Result<(Vec<Phase>, &[u8]), FeedFault>
+fn phases_at(
+    alloc: Global,
+    total: usize,
+    count: u16,
+    bytes: &[u8],
+) -> Result<(Vec<Phase>, &[u8]), FeedFault>
     requires { length bytes.now ≤ total }
     ensures exact { GivesUnless Memory (λ x. (x.0.items, x.1.now)) result (spec.phases_at total count bytes.now) }
     ensures rest { IfOk result (λ x. length x.1.now ≤ length bytes.now) }
@@ -134,7 +173,9 @@ fn feed_in(alloc: Global, bytes: &[u8]) -> Result<Feed, FeedFault>
             let phases = Phases::from(phases);
             Ok(Feed { phases })
         }
-        Ok((_, rest)) => Err(FeedFault::Extra { at: (total - rest.len()) as u64 }),
+        Ok((_, rest)) => Err(FeedFault::Extra {
+            at: (total - rest.len()) as u64,
+        }),
         Err(fault) => Err(fault),
     }
 }

@@ -11,15 +11,26 @@ use cd_block::BlockIds;
 use std::alloc::Global;
 
 pub const ZERO: u8 = 1;
+
 pub const BLOCK: u8 = 2;
+
 pub const EXPIRE: u8 = 3;
+
 pub const READ: u8 = 4;
+
 pub const SLICE: u8 = 5;
+
 pub const SERVE: u8 = 6;
+
 pub const MERGED: u8 = 7;
 
 #[tactic(auto, unfolding(crate::specs::FeedReading::zero_at))]
-fn zero_at(alloc: Global, total: usize, fault: FeedFault, bytes: &[u8]) -> Result<(Task, &[u8]), FeedFault>
+fn zero_at(
+    alloc: Global,
+    total: usize,
+    fault: FeedFault,
+    bytes: &[u8],
+) -> Result<(Task, &[u8]), FeedFault>
     requires { length bytes.now ≤ total }
     ensures exact { GivesUnless Memory (λ x. (x.0, x.1.now)) result (spec.zero_at total fault bytes.now) }
     ensures rest { IfOk result (λ x. length x.1.now ≤ length bytes.now) }
@@ -33,7 +44,12 @@ fn zero_at(alloc: Global, total: usize, fault: FeedFault, bytes: &[u8]) -> Resul
 }
 
 #[tactic(auto, unfolding(crate::specs::FeedReading::block_at))]
-fn block_at(alloc: Global, total: usize, fault: FeedFault, bytes: &[u8]) -> Result<(Task, &[u8]), FeedFault>
+fn block_at(
+    alloc: Global,
+    total: usize,
+    fault: FeedFault,
+    bytes: &[u8],
+) -> Result<(Task, &[u8]), FeedFault>
     requires { length bytes.now ≤ total }
     ensures exact { GivesUnless Memory (λ x. (x.0, x.1.now)) result (spec.block_at total fault bytes.now) }
     ensures rest { IfOk result (λ x. length x.1.now ≤ length bytes.now) }
@@ -44,7 +60,15 @@ fn block_at(alloc: Global, total: usize, fault: FeedFault, bytes: &[u8]) -> Resu
     let (bag, rest) = bag_at(alloc, total, rest)?;
     let tops = BlockIds::from(tops);
     let bag = Bytes::from(bag);
-    Ok((Task::Block { id, parent, tops, bag }, rest))
+    Ok((
+        Task::Block {
+            id,
+            parent,
+            tops,
+            bag,
+        },
+        rest,
+    ))
 }
 
 #[tactic(auto, unfolding(crate::specs::FeedReading::expire_at))]
@@ -57,7 +81,12 @@ fn expire_at(total: usize, bytes: &[u8]) -> Result<(Task, &[u8]), FeedFault>
 }
 
 #[tactic(auto, unfolding(crate::specs::FeedReading::read_at))]
-fn read_at(alloc: Global, total: usize, fault: FeedFault, bytes: &[u8]) -> Result<(Task, &[u8]), FeedFault>
+fn read_at(
+    alloc: Global,
+    total: usize,
+    fault: FeedFault,
+    bytes: &[u8],
+) -> Result<(Task, &[u8]), FeedFault>
     requires { length bytes.now ≤ total }
     ensures exact { GivesUnless Memory (λ x. (x.0, x.1.now)) result (spec.read_at total fault bytes.now) }
     ensures rest { IfOk result (λ x. length x.1.now ≤ length bytes.now) }
@@ -89,7 +118,12 @@ fn serve_at(total: usize, fault: FeedFault, bytes: &[u8]) -> Result<(Task, &[u8]
 }
 
 #[tactic(auto, unfolding(crate::specs::FeedReading::merged_at))]
-fn merged_at(alloc: Global, total: usize, fault: FeedFault, bytes: &[u8]) -> Result<(Task, &[u8]), FeedFault>
+fn merged_at(
+    alloc: Global,
+    total: usize,
+    fault: FeedFault,
+    bytes: &[u8],
+) -> Result<(Task, &[u8]), FeedFault>
     requires { length bytes.now ≤ total }
     ensures exact { GivesUnless Memory (λ x. (x.0, x.1.now)) result (spec.merged_at total fault bytes.now) }
     ensures rest { IfOk result (λ x. length x.1.now ≤ length bytes.now) }
@@ -101,12 +135,27 @@ fn merged_at(alloc: Global, total: usize, fault: FeedFault, bytes: &[u8]) -> Res
     let (bag, rest) = bag_at(alloc, total, rest)?;
     let tops = BlockIds::from(tops);
     let bag = Bytes::from(bag);
-    Ok((Task::Merged { id, left, right, tops, bag }, rest))
+    Ok((
+        Task::Merged {
+            id,
+            left,
+            right,
+            tops,
+            bag,
+        },
+        rest,
+    ))
 }
 
 /// The fields of a task, behind its kind byte.
 #[tactic(auto, unfolding(crate::specs::FeedReading::fields_at))]
-fn fields_at(alloc: Global, total: usize, fault: FeedFault, kind: u8, bytes: &[u8]) -> Result<(Task, &[u8]), FeedFault>
+fn fields_at(
+    alloc: Global,
+    total: usize,
+    fault: FeedFault,
+    kind: u8,
+    bytes: &[u8],
+) -> Result<(Task, &[u8]), FeedFault>
     requires { length bytes.now ≤ total }
     ensures exact { GivesUnless Memory (λ x. (x.0, x.1.now)) result (spec.fields_at total fault kind bytes.now) }
     ensures rest { IfOk result (λ x. length x.1.now ≤ length bytes.now) }
@@ -125,7 +174,13 @@ fn fields_at(alloc: Global, total: usize, fault: FeedFault, kind: u8, bytes: &[u
 
 /// A task, whether a Serve stood before its end, and the bytes behind it. A second Serve is at fault at its kind byte.
 #[tactic(auto, unfolding(crate::specs::FeedReading::task_at))]
-pub fn task_at(alloc: Global, total: usize, fault: FeedFault, served: bool, bytes: &[u8]) -> Result<(Task, bool, &[u8]), FeedFault>
+pub fn task_at(
+    alloc: Global,
+    total: usize,
+    fault: FeedFault,
+    served: bool,
+    bytes: &[u8],
+) -> Result<(Task, bool, &[u8]), FeedFault>
     requires { length bytes.now ≤ total }
     ensures exact { GivesUnless Memory (λ x. (x.0, record { served = x.1; bytes = x.2.now })) result
         (spec.task_at total fault (record { served = served; bytes = bytes.now })) }

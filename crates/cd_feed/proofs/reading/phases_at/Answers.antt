@@ -11,9 +11,9 @@ returns-in-Err-clause-exact c = λ other. rw (from_stops (phase_at c.args.total)
 pub loop-phase-preserved : goal.loop-phase-preserved
 loop-phase-preserved c = record {
   read = rw c.in_ok-push.ensures.items (from_goes_on (phase_at c.args.total) c.loop-phase.phases.items c.args.count c.loop-phase.phase
-    (record { served = c.loop-phase.seen; bytes = c.loop-phase.rest.now }) (record { served = c.in-Ok.found.1; bytes = c.in-Ok.found.2.now }) c.in-Ok.found.0
-    (each_from (phase_at c.args.total) 0 c.args.count (record { served = false; bytes = c.args.bytes.now }))
-    c.loop-phase-test.true c.in-Ok.ensures.exact c.loop-phase.invariant.read);
+      (record { served = c.loop-phase.seen; bytes = c.loop-phase.rest.now }) (record { served = c.in-Ok.found.1; bytes = c.in-Ok.found.2.now }) c.in-Ok.found.0
+      (each_from (phase_at c.args.total) 0 c.args.count (record { served = false; bytes = c.args.bytes.now }))
+      c.loop-phase-test.true c.in-Ok.ensures.exact c.loop-phase.invariant.read);
   shorter = omega (arith, c.in-Ok.ensures.rest, c.loop-phase.invariant.shorter);
 }
 
