@@ -46,6 +46,10 @@ fn put(alloc: Global, feed: &mut Vec<u8>, pieces: &[&str]) -> Result<(), Fail> {
     Ok(())
 }
 
+fn front(feed: &[u8], len: usize) -> &[u8] {
+    if len < feed.len() { &feed[..len] } else { feed }
+}
+
 // The fault of a feed, where it has one.
 fn fault_of(alloc: Global, feed: &[u8]) -> Option<FeedFault> {
     read_feed(alloc, feed).err()
@@ -118,13 +122,13 @@ fn a_cut_feed_is_refused_at_its_length(rt: HostRuntime) -> Result<(), Fail> {
     let feed = each_kind(rt.alloc())?;
     for at in 0..feed.len() {
         let fault = FeedFault::Cut { at: at as u64 };
-        assert_eq!(rt; fault_of(rt.alloc(), &feed[..at]), Some(fault));
+        assert_eq!(rt; fault_of(rt.alloc(), front(&feed, at)), Some(fault));
     }
     let mut longer = each_kind(rt.alloc())?;
     longer.push(0)?;
     assert_eq!(rt; fault_of(rt.alloc(), &longer), Some(FeedFault::Extra { at: 930 }));
     // A step at fault comes before the end that the next one passes.
-    let step = fault_with(rt.alloc(), &feed[..509], 508, "04")?;
+    let step = fault_with(rt.alloc(), front(&feed, 509), 508, "04")?;
     assert_eq!(rt; step, Some(task(0, 1, 1)));
     Ok(())
 }
