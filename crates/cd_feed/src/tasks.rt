@@ -10,18 +10,25 @@ use cd_base::byte_at;
 use cd_block::BlockIds;
 use std::alloc::Global;
 
+/// The kind byte of a zero state.
 pub const ZERO: u8 = 1;
 
+/// The kind byte of a block on one parent.
 pub const BLOCK: u8 = 2;
 
+/// The kind byte of an expiry.
 pub const EXPIRE: u8 = 3;
 
+/// The kind byte of a read along a path.
 pub const READ: u8 = 4;
 
+/// The kind byte of an export in slices.
 pub const SLICE: u8 = 5;
 
+/// The kind byte of an export to the clients.
 pub const SERVE: u8 = 6;
 
+/// The kind byte of a block on two parents.
 pub const MERGED: u8 = 7;
 
 #[tactic(auto, unfolding(crate::specs::FeedReading::zero_at))]

@@ -4,23 +4,33 @@ use std::test::Fail;
 
 // The parts of keys: workchain and shard, and both hashes.
 const MASTER: &str = "ffffffff8000000000000000";
+
 const SHARD: &str = "000000008000000000000000";
+
 const ROOT: &str = "aaaaaaaaaaaaaaaaaaaaaaaaaaaaaaaaaaaaaaaaaaaaaaaaaaaaaaaaaaaaaaaa";
+
 const FILE: &str = "bbbbbbbbbbbbbbbbbbbbbbbbbbbbbbbbbbbbbbbbbbbbbbbbbbbbbbbbbbbbbbbb";
 
 // A feed with a task of each kind, in pieces: two phases, the first of two workers, of two and three tasks.
 const ZERO: [&str; 12] = [
     "01", MASTER, "00000000", ROOT, FILE, "01", SHARD, "00000000", ROOT, FILE, "00000001", "cc",
 ];
+
 const BLOCK: [&str; 11] = [
     "02", SHARD, "00000001", ROOT, FILE, SHARD, "00000000", ROOT, FILE, "00", "00000000",
 ];
+
 const EXPIRE: [&str; 5] = ["03", MASTER, "00000000", ROOT, FILE];
+
 const READ: [&str; 7] = ["04", SHARD, "00000001", ROOT, FILE, "02", "0300"];
+
 const SLICE: [&str; 6] = ["05", SHARD, "00000001", ROOT, FILE, "00000007"];
+
 const PARENTS: [&str; 13] = [
-    "07", SHARD, "00000002", ROOT, FILE, SHARD, "00000001", ROOT, FILE, SHARD, "00000001", ROOT, FILE,
+    "07", SHARD, "00000002", ROOT, FILE, SHARD, "00000001", ROOT, FILE, SHARD, "00000001", ROOT,
+    FILE,
 ];
+
 const SERVE: [&str; 6] = ["06", SHARD, "00000001", ROOT, FILE, "00000009"];
 
 fn each_kind(alloc: Global) -> Result<Vec<u8>, Fail> {
@@ -56,7 +66,12 @@ fn fault_of(alloc: Global, feed: &[u8]) -> Option<FeedFault> {
 }
 
 // The feed with other bytes in a place, and its fault.
-fn fault_with(alloc: Global, feed: &[u8], at: usize, piece: &str) -> Result<Option<FeedFault>, Fail> {
+fn fault_with(
+    alloc: Global,
+    feed: &[u8],
+    at: usize,
+    piece: &str,
+) -> Result<Option<FeedFault>, Fail> {
     let mut changed = Vec::from_slice(alloc, feed)?;
     for (i, byte) in hex::decode(alloc, piece)?.iter().enumerate() {
         if let Some(place) = changed.get_mut(at.saturating_add(i)) {
@@ -67,7 +82,11 @@ fn fault_with(alloc: Global, feed: &[u8], at: usize, piece: &str) -> Result<Opti
 }
 
 fn task(phase: u16, worker: u16, task: u16) -> FeedFault {
-    FeedFault::Task { phase, worker, task }
+    FeedFault::Task {
+        phase,
+        worker,
+        task,
+    }
 }
 
 // The places were counted by hand: the first task stands at 10, the second at 177, the second worker at 343 and its
@@ -108,11 +127,24 @@ fn each_field_has_its_fault(rt: HostRuntime) -> Result<(), Fail> {
         (926, "00200001", task(1, 0, 1)),
     ];
     for (at, piece, fault) in cases {
-        assert_eq!(rt; fault_with(rt.alloc(), &feed, at, piece)?, Some(fault), "{piece} at {at}");
+        assert_eq!(rt;
+            fault_with(rt.alloc(), &feed, at, piece)?,
+            Some(fault),
+            "{piece} at {at}"
+        );
     }
     // At the edges of the ranges.
-    for (at, piece) in [(508, "03"), (591, "00000001"), (591, "00200000"), (926, "00200000")] {
-        assert_eq!(rt; fault_with(rt.alloc(), &feed, at, piece)?, None, "{piece} at {at}");
+    for (at, piece) in [
+        (508, "03"),
+        (591, "00000001"),
+        (591, "00200000"),
+        (926, "00200000"),
+    ] {
+        assert_eq!(rt;
+            fault_with(rt.alloc(), &feed, at, piece)?,
+            None,
+            "{piece} at {at}"
+        );
     }
     Ok(())
 }
@@ -126,7 +158,10 @@ fn a_cut_feed_is_refused_at_its_length(rt: HostRuntime) -> Result<(), Fail> {
     }
     let mut longer = each_kind(rt.alloc())?;
     longer.push(0)?;
-    assert_eq!(rt; fault_of(rt.alloc(), &longer), Some(FeedFault::Extra { at: 930 }));
+    assert_eq!(rt;
+        fault_of(rt.alloc(), &longer),
+        Some(FeedFault::Extra { at: 930 })
+    );
     // A step at fault comes before the end that the next one passes.
     let step = fault_with(rt.alloc(), front(&feed, 509), 508, "04")?;
     assert_eq!(rt; step, Some(task(0, 1, 1)));
@@ -155,7 +190,9 @@ fn a_feed_is_read_and_written_back(rt: HostRuntime) -> Result<(), Fail> {
 // The kind byte of a task, and what else it has as the feed of each kind has it.
 fn kind_of(task: &Task) -> u8 {
     match task {
-        Task::Zero { id, tops, bag } if id.shard_id.is_master() && tops.len() == 1 && bag.as_slice() == [0xcc].as_slice() => 1,
+        Task::Zero { id, tops, bag }
+            if id.shard_id.is_master() && tops.len() == 1 && bag.as_slice() == [0xcc].as_slice() =>
+            1,
         Task::Block { id, parent, .. } if id.seqno == 1 && parent.seqno == 0 => 2,
         Task::Expire { id } if id.shard_id.is_master() => 3,
         Task::Read { path, .. } if path.as_slice() == [3, 0].as_slice() => 4,
@@ -172,9 +209,17 @@ fn small_feeds(rt: HostRuntime) -> Result<(), Fail> {
     let text = |piece: &str| hex::decode(rt.alloc(), piece);
     let empty = text("636466310000")?;
     assert_eq!(rt; read_feed(rt.alloc(), &empty)?.phases.len(), 0);
-    assert_eq!(rt; fault_of(rt.alloc(), &text("63646631000000")?), Some(FeedFault::Extra { at: 6 }));
-    assert_eq!(rt; fault_of(rt.alloc(), &text("6364663100")?), Some(FeedFault::Cut { at: 5 }));
-    let cut = text("6364663100030001000401ffffffff800000000000000000000000adc6b38512d0c6d1758148fc18579a3d")?;
+    assert_eq!(rt;
+        fault_of(rt.alloc(), &text("63646631000000")?),
+        Some(FeedFault::Extra { at: 6 })
+    );
+    assert_eq!(rt;
+        fault_of(rt.alloc(), &text("6364663100")?),
+        Some(FeedFault::Cut { at: 5 })
+    );
+    let cut = text(
+        "6364663100030001000401ffffffff800000000000000000000000adc6b38512d0c6d1758148fc18579a3d",
+    )?;
     assert_eq!(rt; fault_of(rt.alloc(), &cut), Some(FeedFault::Cut { at: 43 }));
     Ok(())
 }
@@ -186,7 +231,10 @@ fn faults_have_texts(rt: HostRuntime) -> Result<(), Fail> {
         (FeedFault::Cut { at: 5 }, "the feed is cut at 5"),
         (FeedFault::Limit { at: 6 }, "a number over its limit at 6"),
         (task(1, 2, 3), "phase 1, worker 2: task 3 is at fault"),
-        (FeedFault::Extra { at: 7 }, "bytes stand behind the feed at 7"),
+        (
+            FeedFault::Extra { at: 7 },
+            "bytes stand behind the feed at 7",
+        ),
     ];
     for (fault, text) in cases {
         assert_eq!(rt; fault.to_string(rt.alloc())?.as_str(), text);
