@@ -6,8 +6,8 @@ use Rattle.std.specs.Cmp.{IsTotalOrder}
 use Rattle.std.specs.declared.cmp.Ordering.{Ordering}
 use Rattle.std.specs.FinMap as finite
 
--- what nodes are: the key of each, its children, and what is reached from it, itself among them; and how keys are told
--- apart, by an order and by a test
+-- what nodes are: the key of each, its children, and what is reached from it, itself among them; and how keys are
+-- told apart, by an order and by a test
 pub record Graph (N K : Type 0) : Type 0 where
   pub order : K → K → Ordering
   pub same : K → K → Bool
@@ -15,8 +15,8 @@ pub record Graph (N K : Type 0) : Type 0 where
   pub children : N → List N
   pub reach : N → List N
 
--- the order and the test tell keys apart, what is reached is what is reached by children, and some size falls from a node
--- to its children
+-- the order and the test tell keys apart, what is reached is what is reached by children, and some size falls from a
+-- node to its children
 pub record IsGraph {N K : Type 0} (G : Graph N K) : Type 0 where
   pub total : IsTotalOrder G.order
   pub tells : finite.IsAntisymmetric G.order
@@ -63,7 +63,8 @@ module _ {N K : Type 0} (G : Graph N K) where
 
   -- nodes that the roots reach and that have one key are one node
   abbrev pub AreClashFree : List N → Type 0
-  AreClashFree roots = (s t : N) → Contains (reached roots) s → Contains (reached roots) t → G.key s ≡ G.key t → s ≡ t
+  AreClashFree roots = (s t : N) → Contains (reached roots) s → Contains (reached roots) t
+      → G.key s ≡ G.key t → s ≡ t
 
   -- many has the roots of few and those of more, in any order
   pub record AreTogether (few more many : List N) : Type 0 where

@@ -9,7 +9,8 @@ use Rattle.cd_nodes.specs.Worklists.{Left, take_all, IsUnderWay}
 module _ {N K : Type 0} (G : Graph N K) where
   -- one root comes, at any place among the others
   abbrev pub ARootComes : Type 0
-  ARootComes = (lower higher : List N) (root : N) → AreTogether G (lower ++ higher) (root ∷ []) (lower ++ root ∷ higher)
+  ARootComes = (lower higher : List N) (root : N)
+      → AreTogether G (lower ++ higher) (root ∷ []) (lower ++ root ∷ higher)
 
   -- some roots stay, and the others go
   abbrev pub SomeRootsGo : {B : Type 0} → (B → N) → Type 0
@@ -55,14 +56,16 @@ module _ {N K : Type 0} (G : Graph N K) where
     -- a key has a record exactly where it is held, of its count and face
     abbrev pub RecordsAreCounted : Type 0
     RecordsAreCounted = (roots : List N) (h : K)
-        → finite.get (records G face text roots) h ≡ option_map (λ c. text (count G roots h) (face c)) (held_at G roots h)
+        → finite.get (records G face text roots) h
+        ≡ option_map (λ c. text (count G roots h) (face c)) (held_at G roots h)
 
     -- where rows count what comes and what goes, their batch leads from the old records to those that are left
     abbrev pub PlansLead : Type 0
     PlansLead = (old more grown gone left news dead : List N) (rows : List (K × Row F))
         → AreTogether G old more grown → AreTogether G left gone grown → AreClashFree G grown
         → AreNew G old grown news → AreDead G grown gone dead
-        → AreRows G face old more grown gone news dead (λ h. finite.find G.order h rows) → HasNoKeyTwice G.order rows
+        → AreRows G face old more grown gone news dead (λ h. finite.find G.order h rows)
+        → HasNoKeyTwice G.order rows
         → after_batch text (records G face text old) rows ≡ records G face text left
 
     -- where texts tell their counts, a plan changes nothing that stays

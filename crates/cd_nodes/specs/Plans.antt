@@ -73,7 +73,8 @@ module _ {K X : Type 0} {order : K → K → Ordering} where
   drop_all m ks = fold (λ t k. finite.remove t k) m ks
 
   -- a map after the batch of some rows
-  abbrev pub after_batch : {F : Type 0} → (ℕ → F → X) → finite.FinMap order X → List (K × Row F) → finite.FinMap order X
+  abbrev pub after_batch : {F : Type 0} → (ℕ → F → X) → finite.FinMap order X → List (K × Row F)
+      → finite.FinMap order X
   after_batch text m rows = put_all (drop_all m (drops text rows)) (puts text rows)
 
 -- ---- plans
@@ -87,18 +88,22 @@ module _ {N K F : Type 0} (G : Graph N K) (face : N → F) where
   pub record IsPlan (old new : List N) (plan : K → Option (Row F)) : Type 0 where
     pub stored : (h : K) (row : Row F) → plan h ≡ Some row → row.stored ≡ stored_count old h
     pub now : (h : K) (row : Row F) → plan h ≡ Some row → row.now ≡ count G new h
-    pub face_old : (h : K) (row : Row F) (c : N) → plan h ≡ Some row → held_at G old h ≡ Some c → row.face ≡ face c
-    pub face_new : (h : K) (row : Row F) (c : N) → plan h ≡ Some row → held_at G new h ≡ Some c → row.face ≡ face c
-    pub rest : (h : K) → plan h ≡ None → (held_at G new h ≡ held_at G old h) × (count G new h ≡ count G old h)
+    pub face_old : (h : K) (row : Row F) (c : N) → plan h ≡ Some row → held_at G old h ≡ Some c
+        → row.face ≡ face c
+    pub face_new : (h : K) (row : Row F) (c : N) → plan h ≡ Some row → held_at G new h ≡ Some c
+        → row.face ≡ face c
+    pub rest : (h : K) → plan h ≡ None
+        → (held_at G new h ≡ held_at G old h) × (count G new h ≡ count G old h)
 
   -- the count to be of a key: what its row says, else the count as it is
   abbrev pub now_at : List N → (K → Option (Row F)) → K → ℕ
   now_at old plan h = option_map_or (λ (row : Row F). row.now) (plan h) (count G old h)
 
-  -- from old the roots grow by more, so that news are held besides, to grown; of these gone go, and dead with them. The
-  -- rows have the references that come and those that go.
+  -- from old the roots grow by more, so that news are held besides, to grown; of these gone go, and dead with them.
+  -- The rows have the references that come and those that go.
   pub record AreRows (old more grown gone news dead : List N) (plan : K → Option (Row F)) : Type 0 where
     pub stored : (h : K) (row : Row F) → plan h ≡ Some row → row.stored ≡ stored_count old h
-    pub faces : (h : K) (row : Row F) (c : N) → plan h ≡ Some row → held_at G grown h ≡ Some c → row.face ≡ face c
+    pub faces : (h : K) (row : Row F) (c : N) → plan h ≡ Some row → held_at G grown h ≡ Some c
+        → row.face ≡ face c
     pub now : (h : K) → now_at old plan h + (occurrences G gone h + references G dead h)
         ≡ count G old h + (occurrences G more h + references G news h)
