@@ -101,7 +101,8 @@ module _ {N K : Type 0} (G : Graph N K) (laws : IsGraph G) {F X : Type 0} (face 
     ]
 
     -- and changes nothing that stays
-    module _ (tells : (a b : ℕ) (f g : F) → text a f ≡ text b g → a ≡ b) where
+    module _ (most : ℕ) (tells : (a b : ℕ) (f g : F) → a ≤ most → b ≤ most → text a f ≡ text b g → a ≡ b)
+        (old_few : (q : K) → count G old q ≤ most) (new_few : (q : K) → count G new q ≤ most) where
       exact_drop : (q : K) (row : Row F) (new_value : Option X) → plan q ≡ Some row → dropped row.stored ≡ Some new_value → new_value ≡ record_old q → ⊥
       exact_drop q row v is e same_value = elim (option_cases (held_at G old q)) [
         | inl none ↦
@@ -116,8 +117,8 @@ module _ {N K : Type 0} (G : Graph N K) (laws : IsGraph G) {F X : Type 0} (face 
             not_both (text (count G old q) (face c.0)) v u (same_value ∙ b)
       ]
 
-      exact_put : (q : K) (row : Row F) (n : ℕ) (new_value : Option X) → plan q ≡ Some row → cond (is_stored row.stored (suc n)) None (Some (Some (text (suc n) row.face))) ≡ Some new_value → new_value ≡ record_old q → ⊥
-      exact_put q row n v is e same_value = elim (true_or_false (is_stored row.stored (suc n))) [
+      exact_put : (q : K) (row : Row F) (n : ℕ) (new_value : Option X) → plan q ≡ Some row → suc n ≡ count G new q → cond (is_stored row.stored (suc n)) None (Some (Some (text (suc n) row.face))) ≡ Some new_value → new_value ≡ record_old q → ⊥
+      exact_put q row n v is now e same_value = elim (true_or_false (is_stored row.stored (suc n))) [
         | inl was ↦
             let d : cond (is_stored row.stored (suc n)) None (Some (Some (text (suc n) row.face))) ≡ None = ap (λ b. cond b None (Some (Some (text (suc n) row.face)))) was in
             not_both v (cond (is_stored row.stored (suc n)) None (Some (Some (text (suc n) row.face)))) d e
@@ -132,20 +133,20 @@ module _ {N K : Type 0} (G : Graph N K) (laws : IsGraph G) {F X : Type 0} (face 
                   let s : row.stored ≡ Some (count G old q) = so.stored q row is ∙ ap (option_map (λ _. count G old q)) c.1 in
                   let b : record_old q ≡ Some (text (count G old q) (face c.0)) = old_is q ∙ ap (made_old q) c.1 in
                   let t : text (suc n) row.face ≡ text (count G old q) (face c.0) = cc in
-                  let m : suc n ≡ count G old q = tells _ _ _ _ t in
+                  let m : suc n ≡ count G old q = tells _ _ _ _ (subst (λ m. m ≤ most) (sym now) (new_few q)) (old_few q) t in
                   let y : is_stored row.stored (suc n) ≡ true = ap (λ o. is_stored o (suc n)) s ∙ ap (λ z. is_stored (Some z) (suc n)) (sym m) ∙ stored_yes (suc n) in
                   true≢false (sym y ∙ not_so)
             ]
       ]
 
-      exact_row : (q : K) (row : Row F) (now : ℕ) (v : Option X) → plan q ≡ Some row → written text (record { stored = row.stored; now = row.now; face = row.face }) now ≡ Some v → v ≡ record_old q → ⊥
-      exact_row q row zero v is e s = exact_drop q row v is e s
-      exact_row q row (suc n) v is e s = exact_put q row n v is e s
+      exact_row : (q : K) (row : Row F) (now : ℕ) (v : Option X) → plan q ≡ Some row → now ≡ count G new q → written text (record { stored = row.stored; now = row.now; face = row.face }) now ≡ Some v → v ≡ record_old q → ⊥
+      exact_row q row zero v is now e s = exact_drop q row v is e s
+      exact_row q row (suc n) v is now e s = exact_put q row n v is now e s
 
       pub exact : (q : K) (v : Option X) → change_at text (plan q) ≡ Some v → v ≡ record_old q → ⊥
       exact q v e s = elim (option_cases (plan q)) [
         | inl n ↦ not_both v (change_at text (plan q)) (ap (change_at text) n) e
-        | inr w ↦ exact_row q w.0 w.0.now v w.1 (sym (ap (change_at text) w.1) ∙ e) s
+        | inr w ↦ exact_row q w.0 w.0.now v w.1 (so.now q w.0 w.1) (sym (ap (change_at text) w.1) ∙ e) s
       ]
 
   -- rows that count what comes and what goes are a plan

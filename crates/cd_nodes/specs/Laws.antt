@@ -68,9 +68,10 @@ module _ {N K : Type 0} (G : Graph N K) where
         → HasNoKeyTwice G.order rows
         → after_batch text (records G face text old) rows ≡ records G face text left
 
-    -- where texts tell their counts, a plan changes nothing that stays
+    -- where texts tell their counts, up to a greatest one, a plan changes nothing that stays
     abbrev pub PlansAreExact : Type 0
-    PlansAreExact = ((a b : ℕ) (f g : F) → text a f ≡ text b g → a ≡ b)
+    PlansAreExact = (most : ℕ) → ((a b : ℕ) (f g : F) → a ≤ most → b ≤ most → text a f ≡ text b g → a ≡ b)
         → (old new : List N) (plan : K → Option (Row F)) → AreClashFree G old → AreClashFree G new
+        → ((h : K) → count G old h ≤ most) → ((h : K) → count G new h ≤ most)
         → IsPlan G face old new plan → (h : K) (value : Option X)
         → change_at text (plan h) ≡ Some value → value ≡ finite.get (records G face text old) h → ⊥
