@@ -1,18 +1,18 @@
 -- Cells are nodes, and what worlds hold and count is what these nodes' laws speak of.
-use Rattle.std.proofs.Common.{◌≡◌, ◌⊎◌, inl, inr, ℕ, ◌+◌, ◌<◌, ◌≤◌, List, [], ◌∷◌, length, length-append, map, Contains, refl, sym, ap, ◌∙◌, subst, arith, Bool, cond, count_by, Option}
+use Rattle.std.proofs.Common.{◌≡◌, ◌⊎◌, inl, inr, ℕ, ◌+◌, ◌<◌, ◌≤◌, List, [], ◌∷◌, length, length-append, map, Contains, refl, sym, ap, ◌∙◌, arith, cond, count_by}
 use Rattle.std.specs.Cmp.Lexicographic.{nat_list_cmp_total}
 use Rattle.std.specs.FinMap as finite
 use Rattle.std.proofs.lemmas.List.Folds.{flat_map-map}
 use Rattle.std.proofs.lemmas.List.Sums.{sum_by-cons}
 use Rattle.std.proofs.lemmas.Slice.Eq.{bytes_eq-Decides}
 use Rattle.cd_base.specs.declared.hash.Hash256.{Hash256}
-use Rattle.cd_cell.specs.Tree.{Tree, cell, Trees, no_trees, tree_and, children, list_of, subtrees, subtrees_of_all, face_of, rep_of}
+use Rattle.cd_cell.specs.Tree.{Tree, cell, Trees, no_trees, tree_and, children, list_of, subtrees, subtrees_of_all}
 use Rattle.cd_cell.specs.Export.{AreClashFree}
-use Rattle.cd_cell.proofs.Subtrees.{Contains-nil, Contains-first, Contains-cases, subtree-itself, child-is-subtree, subtrees-subtree, subtree-parent, same_subtrees}
+use Rattle.cd_cell.proofs.Subtrees.{Contains-nil, Contains-cases, subtree-itself, child-is-subtree, subtrees-subtree, subtree-parent, same_subtrees}
 use Rattle.cd_nodes.specs.Graphs.{IsGraph}
 use Rattle.cd_nodes.specs.Graphs as nodes
-use Rattle.cd_world.specs.World.{Block, World, cell_entry, held_of, held_cells, has_hash, places_of, count_of}
-use Rattle.cd_count.specs.Changes.{states, rep_bytes, cell_graph, held_under}
+use Rattle.cd_world.specs.World.{Block, World, cell_entry, held_of, has_hash, count_of}
+use Rattle.cd_count.specs.Changes.{states, cell_graph, held_under}
 
 -- a child has fewer cells than its parent
 abbrev size : Tree → ℕ

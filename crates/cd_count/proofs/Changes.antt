@@ -1,9 +1,8 @@
 -- How what worlds hold changes with their blocks, and what a plan's batch makes of contents.
-use Rattle.std.proofs.Common.{◌≡◌, ℕ, zero, suc, ◌+◌, ◌<◌, ◌≤◌, ◌^◌, List, [], ◌∷◌, ◌++◌, take, Bool, true, false, cond, refl, sym, ap, ap₂, ◌∙◌, subst, arith, Option, Some, None, is_some}
+use Rattle.std.proofs.Common.{◌≡◌, ℕ, zero, suc, ◌≤◌, List, [], ◌∷◌, ◌++◌, take, Bool, true, false, cond, filter, Contains, ◌⊎◌, refl, sym, ap, ap₂, ◌∙◌, subst, subst₂, arith, IsSome, is_none, Option, Some, None, is_some}
 use Rattle.std.specs.Option.{option_or, option_map}
-use Rattle.std.specs.List.{AllByRecursion, cons_option}
-use Rattle.std.specs.Ordering.{nat_cmp}
-use Rattle.std.specs.Cmp.Lexicographic.{slice_cmp, nat_list_cmp_total}
+use Rattle.std.specs.List.{cons_option}
+use Rattle.std.specs.Cmp.Lexicographic.{nat_list_cmp_total}
 use Rattle.std.specs.FinMap as finite
 use Rattle.cd_base.specs.declared.hash.Hash256.{Hash256}
 use Rattle.cd_base.specs.Numbers.{from_big}
@@ -19,12 +18,14 @@ use Rattle.cd_nodes.proofs.Counts.{held_at-grown, count-grown, new-dead, clash_f
 use Rattle.cd_nodes.proofs.Records.{held_at-less, get-records}
 use Rattle.cd_nodes.proofs.Batches.{after_batch-records}
 use Rattle.cd_nodes.proofs.Plans.{plan_is, exact}
-use Rattle.cd_world.specs.World.{Block, World, held_cells, count_of}
+use Rattle.cd_nodes.proofs.Together.{together-insert, together-filter}
+use Rattle.cd_nodes.proofs.Listed.{new-listed}
+use Rattle.cd_world.specs.World.{Block, World, CellMap}
 use Rattle.cd_world.specs.Image.{image_of, plain_record, IsContentsOf}
 use Rattle.cd_world.proofs.Plain.{plain_record-text, ArePlain, image-cell, contents-changed}
-use Rattle.cd_count.specs.Changes.{states, Rows, row_in, IsCellBatch, cell_graph, held_under, IsCounted, AreCounted, DescsLead}
-use Rattle.cd_count.specs.Laws.{CountsGrow, CountsFall, PlansLead, PlansAreExact}
-use Rattle.cd_count.proofs.CellGraph.{is_graph, clash_free, held_at-states, count-states}
+use Rattle.cd_count.specs.Changes.{states, rep_bytes, Rows, row_in, IsCellBatch, cell_graph, HasFewReferences, AreCounted, DescsLead}
+use Rattle.cd_count.specs.Laws.{ABlockComes, SomeBlocksGo, NewCellsAreListed, CountsGrow, CountsFall}
+use Rattle.cd_count.proofs.CellGraph.{is_graph, clash_free, held-states, held_at-states, count-states}
 
 -- records of version 2 tell their counts
 pub texts_tell : (a b : ℕ) (f g : FaceView) → a ≤ GREATEST_COUNT → b ≤ GREATEST_COUNT → record_text a f ≡ record_text b g → a ≡ b
@@ -63,7 +64,27 @@ puts_plain : (rows : Rows) → ArePlain (plans.puts record_text rows)
 puts_plain [] = tt
 puts_plain (e ∷ rows) = with_put e.0 (plans.put_of (plans.change_at record_text (Some e.1))) (plans.puts record_text rows) (written_plain e.1 e.1.now) (puts_plain rows)
 
+states-append : (xs ys : List Block) → states (xs ++ ys) ≡ states xs ++ states ys
+states-append [] ys = refl
+states-append (b ∷ bs) ys = ap (λ (ts : List Tree). b.state ∷ ts) (states-append bs ys)
+
 module _ (H : List ℕ → Hash256) where
+  pub block_comes : ABlockComes H
+  block_comes lower higher block =
+      subst₂ (λ (few many : List Tree). nodes.AreTogether (cell_graph H) few (block.state ∷ []) many)
+      (sym (states-append lower higher)) (sym (states-append lower (block ∷ higher)))
+      (together-insert (cell_graph H) (states lower) (states higher) block.state)
+
+  pub blocks_go : SomeBlocksGo H
+  blocks_go stays blocks = together-filter (cell_graph H) (λ (b : Block). b.state) stays blocks
+
+  pub new_cells_listed : NewCellsAreListed H
+  new_cells_listed before come after listed sum distinct within every =
+      subst (λ (m : CellMap). nodes.AreNew (cell_graph H) (states before.blocks) (states after) (filter (λ (c : Tree). is_none (finite.get m (rep_bytes H c))) listed))
+      (held-states H before.blocks)
+      (new-listed (cell_graph H) (is_graph H) (states before.blocks) (states come) (states after) listed sum distinct within
+      (λ c h. subst (λ (m : CellMap). Contains listed c ⊎ IsSome (finite.get m (rep_bytes H c))) (sym (held-states H before.blocks)) (every c h)))
+
   pub counts_grow : CountsGrow H
   counts_grow before after come news sum free new hash =
       let clear = clash_free H (states after.blocks) free in
@@ -124,10 +145,10 @@ module _ (H : List ℕ → Hash256) where
         ap₂ (λ (drops : List (List ℕ)) (puts : List (List ℕ × List ℕ)). put_all (drop_all before.cells drops) puts) batch.drops batch.puts ∙ cells_lead in
         contents-changed H old contents is change left (subst ArePlain (sym batch.puts) (puts_plain rows)) (λ i. record { cells = cells i; descs = descs i })
 
-    pub exactly : IsCounted H old → IsCounted H left → (hash : List ℕ) (value : Option (List ℕ)) → plans.change_at record_text (row_in rows hash) ≡ Some value
+    pub exactly : HasFewReferences H old → HasFewReferences H left → (hash : List ℕ) (value : Option (List ℕ)) → plans.change_at record_text (row_in rows hash) ≡ Some value
         → let image = image_of H old in value ≡ finite.get image.cells hash → ⊥
     exactly counted_old counted_left hash value is stays =
         exact (cell_graph H) (is_graph H) (face_of H) record_text states_old states_left free_old free_left (row_in rows) is_plan GREATEST_COUNT texts_tell
-        (λ q. subst (λ n. n ≤ GREATEST_COUNT) (sym (count-states H old q)) (counted_old.few q))
-        (λ q. subst (λ n. n ≤ GREATEST_COUNT) (sym (count-states H left q)) (counted_left.few q))
+        (λ q. subst (λ n. n ≤ GREATEST_COUNT) (sym (count-states H old q)) (counted_old q))
+        (λ q. subst (λ n. n ≤ GREATEST_COUNT) (sym (count-states H left q)) (counted_left q))
         hash value is (stays ∙ ap (λ m. finite.get m hash) (sym (image-records old)))

@@ -8,7 +8,7 @@ use Rattle.cd_base.specs.declared.hash.Hash256.{Hash256}
 use Rattle.cd_cell.specs.FaceView.{FaceView}
 use Rattle.cd_cell.specs.Tree.{Tree, children, subtrees, face_of, rep_of}
 use Rattle.cd_cell.specs.Export.{AreClashFree}
-use Rattle.cd_keeper.specs.Contents.{Contents, Change, changed, put_all, drop_all}
+use Rattle.cd_keeper.specs.Contents.{Change, put_all, drop_all}
 use Rattle.cd_record.specs.declared.limits.TheConstants.{GREATEST_COUNT}
 use Rattle.cd_record.specs.RecordText.{record_text}
 use Rattle.cd_nodes.specs.Graphs as nodes
@@ -38,7 +38,13 @@ module _ (H : List ℕ → Hash256) where
 
   -- cells are nodes: their keys are their hashes, and each reaches the cells below it
   abbrev pub cell_graph : nodes.Graph Tree (List ℕ)
-  cell_graph = record { order = slice_cmp nat_cmp; same = bytes_eq; key = rep_bytes; children = children; reach = subtrees }
+  cell_graph = record {
+    order = slice_cmp nat_cmp;
+    same = bytes_eq;
+    key = rep_bytes;
+    children = children;
+    reach = subtrees;
+  }
 
   -- the held cell under a hash
   abbrev pub held_under : World → List ℕ → Option Tree
@@ -64,20 +70,21 @@ module _ (H : List ℕ → Hash256) where
   abbrev pub AreDeadCells : List Block → List Block → List Tree → Type 0
   AreDeadCells many gone dead = nodes.AreDead cell_graph (states many) (states gone) dead
 
-  -- no two cells of these blocks clash, and no count is over the greatest
-  pub record IsCounted (world : World) : Type 0 where
-    pub clash_free : AreClashFree H (states world.blocks)
-    pub few : (hash : List ℕ) → count_of H world hash ≤ GREATEST_COUNT
+  -- no count is over the greatest that a record may have
+  abbrev pub HasFewReferences : World → Type 0
+  HasFewReferences world = (hash : List ℕ) → count_of H world hash ≤ GREATEST_COUNT
 
-  -- from old, blocks come, and with them the cells of news, to grown; then blocks go, and with them the cells of dead, and
-  -- left stays; the rows have the references that come and those that go
-  pub record AreCounted (old grown left : World) (come gone : List Block) (news dead : List Tree) (rows : Rows) : Type 0 where
+  -- old grows to grown by the blocks of come and the cells of news; then the blocks of gone go, and with them the
+  -- cells of dead, and left stays. The rows have the references that come and those that go.
+  pub record AreCounted (old grown left : World) (come gone : List Block) (news dead : List Tree) (rows : Rows)
+      : Type 0 where
     pub came : AreTogether old.blocks come grown.blocks
     pub went : AreTogether left.blocks gone grown.blocks
     pub clash_free : AreClashFree H (states grown.blocks)
     pub new : AreNewCells old.blocks grown.blocks news
     pub ended : AreDeadCells grown.blocks gone dead
-    pub rows_are : plans.AreRows cell_graph (face_of H) (states old.blocks) (states come) (states grown.blocks) (states gone) news dead (row_in rows)
+    pub rows_are : plans.AreRows cell_graph (face_of H) (states old.blocks) (states come) (states grown.blocks)
+        (states gone) news dead (row_in rows)
     pub once : plans.HasNoKeyTwice (slice_cmp nat_cmp) rows
 
   -- the batch leads from the descriptions of one world to those of another

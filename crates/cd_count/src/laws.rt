@@ -20,6 +20,17 @@ pub fn cells_are_nodes()
         → nodes.count (cell_graph H) (states world.blocks) hash ≡ count_of H world hash }
 {}
 
+/// Where one block comes, or some go, the blocks before and after are told apart from those that came or went.
+pub fn blocks_come_and_go()
+    ensures comes { (H : List ℕ → Hash256) → law.ABlockComes H }
+    ensures go { (H : List ℕ → Hash256) → law.SomeBlocksGo H }
+{}
+
+/// Where blocks come with a list of their cells, the new cells are the listed ones that aren't held.
+pub fn new_cells_are_listed()
+    ensures { (H : List ℕ → Hash256) → law.NewCellsAreListed H }
+{}
+
 /// Blocks that come bring their new cells, and counts grow by the references of both.
 pub fn counts_grow()
     ensures { (H : List ℕ → Hash256) → law.CountsGrow H }

@@ -3,4 +3,7 @@
 
 mod laws;
 
-pub use laws::{cells_are_nodes, counts_fall, counts_grow, plans_are_exact, plans_lead};
+pub use laws::{
+    blocks_come_and_go, cells_are_nodes, counts_fall, counts_grow, new_cells_are_listed,
+    plans_are_exact, plans_lead,
+};

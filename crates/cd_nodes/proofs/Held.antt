@@ -73,3 +73,9 @@ module _ {N K : Type 0} (G : Graph N K) (laws : IsGraph G) where
       let f = find_of (reached G roots) c h in
       let i = find_in (G.key c) (reached G roots) f.0 f.1 in
       finite.get-from_entries laws.total (keyed G (reached G roots)) (G.key c) ∙ f.1 ∙ ap {B = Option N} Some (clear f.0 c i.0 h i.1)
+
+  -- or another node with its key, where it may name several
+  pub held_by : (roots : List N) (c : N) → Contains (reached G roots) c → (d : N) × (held_at G roots (G.key c) ≡ Some d)
+  held_by roots c h =
+      let f = find_of (reached G roots) c h in
+      (f.0, finite.get-from_entries laws.total (keyed G (reached G roots)) (G.key c) ∙ f.1)

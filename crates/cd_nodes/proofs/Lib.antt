@@ -1,6 +1,7 @@
 pub mod Batches
 pub mod Counts
 pub mod Held
+pub mod Listed
 pub mod Lists
 pub mod Maps
 pub mod Plans

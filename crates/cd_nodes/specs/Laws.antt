@@ -1,8 +1,9 @@
 -- Trusted: how what roots hold changes as roots come and go, and what a plan's batch does.
-use Rattle.std.specs.Prelude.{◌≡◌, ℕ, ◌+◌, ◌<◌, ◌≤◌, Bool, cond, not, is_some, List, [], ◌∷◌, ◌++◌, map, filter, length, get_or, Option, Some, None}
+use Rattle.std.specs.Prelude.{◌≡◌, ℕ, ◌+◌, ◌<◌, ◌≤◌, ◌⊎◌, Bool, cond, not, is_some, is_none, IsSome, Contains, List, [], ◌∷◌, ◌++◌, map, filter, length, get_or, Option, Some, None}
 use Rattle.std.specs.Option.{option_or, option_map}
+use Rattle.std.specs.List.{IsDistinct}
 use Rattle.std.specs.FinMap as finite
-use Rattle.cd_nodes.specs.Graphs.{Graph, occurrences, references, find, held_at, count, AreClashFree, AreTogether, AreNew, AreDead, records}
+use Rattle.cd_nodes.specs.Graphs.{Graph, occurrences, references, find, reached, held_at, count, AreClashFree, AreTogether, AreNew, AreDead, records}
 use Rattle.cd_nodes.specs.Plans.{Row, change_at, after_batch, HasNoKeyTwice, IsPlan, AreRows}
 use Rattle.cd_nodes.specs.Worklists.{Left, take_all, IsUnderWay}
 
@@ -16,6 +17,14 @@ module _ {N K : Type 0} (G : Graph N K) where
   abbrev pub SomeRootsGo : {B : Type 0} → (B → N) → Type 0
   SomeRootsGo {B} root = (stays : B → Bool) (bs : List B)
       → AreTogether G (map root (filter stays bs)) (map root (filter (λ b. not (stays b)) bs)) (map root bs)
+
+  -- where each node that further roots reach is listed or held already, the new ones are the listed that aren't held
+  abbrev pub NewAreListed : Type 0
+  NewAreListed = (few more many listed : List N) → AreTogether G few more many
+      → IsDistinct G.same (map G.key listed)
+      → ((c : N) → Contains listed c → Contains (reached G more) c)
+      → ((c : N) → Contains (reached G more) c → Contains listed c ⊎ IsSome (held_at G few (G.key c)))
+      → AreNew G few many (filter (λ c. is_none (held_at G few (G.key c))) listed)
 
   -- as roots come, the new nodes are held besides, and counts grow by the references that come with them
   abbrev pub CountsGrow : Type 0

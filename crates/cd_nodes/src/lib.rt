@@ -12,6 +12,11 @@ pub fn roots_come_and_go<N, K, B>()
     ensures go { (G : Graph N K) → (root : B → N) → law.SomeRootsGo G root }
 {}
 
+/// Where further roots come with a list of their nodes, the new nodes are the listed ones that aren't held.
+pub fn new_nodes_are_listed<N, K>()
+    ensures { (G : Graph N K) → IsGraph G → law.NewAreListed G }
+{}
+
 /// Roots that come bring their new nodes, and counts grow by the references of both.
 pub fn counts_grow<N, K>()
     ensures { (G : Graph N K) → IsGraph G → law.CountsGrow G }
