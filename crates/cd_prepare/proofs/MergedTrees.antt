@@ -1,17 +1,17 @@
 -- The listed cells of an update over the joined tree of two states stand for the applied tree.
-use Rattle.std.proofs.Common.{◌≡◌, ℕ, suc, ◌<◌, List, [], ◌∷◌, ◌++◌, length, get_or, drop, map, flat_map, Contains, Less, Bool, true, false, Option, Some, None, Ok, refl, ap, sym, ◌∙◌, subst, inl, inr, ⊎_elim, ◌⊎◌}
-use Rattle.std.proofs.lemmas.Bool.{and_parts, and_from}
+use Rattle.std.proofs.Common.{◌≡◌, ℕ, suc, ◌<◌, List, [], ◌∷◌, ◌++◌, get_or, drop, map, flat_map, Contains, Less, true, Option, None, Ok, ap, sym, ◌∙◌, subst, inl, inr, ⊎_elim, ◌⊎◌}
+use Rattle.std.proofs.lemmas.Bool.{and_from}
 use Rattle.std.proofs.lemmas.List.{get_or_default}
 use Rattle.std.proofs.lemmas.List.Elements.{Contains-get_or, Contains-append_cases, Contains-append_left, Contains-append_right}
 use Rattle.cd_base.specs.declared.hash.Hash256.{Hash256}
 use Rattle.cd_cell.specs.Infos.{rep_of_info}
-use Rattle.cd_cell.specs.Tree.{Tree, children, subtrees, info_of, face_of, mask_of, rep_of, depth_at, IsWellFormed}
+use Rattle.cd_cell.specs.Tree.{Tree, children, subtrees, info_of, face_of, mask_of, depth_at, IsWellFormed}
 use Rattle.cd_cell.specs.Unfolding.{no_tree}
 use Rattle.cd_cell.specs.Export.{export_cmp, sorted_distinct, AreDistinct, AreClashFree}
 use Rattle.cd_cell.specs.Joined.{joined_tree}
 use Rattle.cd_cell.specs.Listings.{new_cell_of, old_cells, tree_of}
 use Rattle.cd_cell.specs.Updates.{is_hidden, stands_for, found_in, known_of, half_of, first_foreign, grafted, refusal_of, applied, new_cells}
-use Rattle.cd_cell.proofs.Subtrees.{Contains-first, Contains-cases, Contains-nil, subtree-itself, well_formed-subtree, flat_map-listed, same_subtrees}
+use Rattle.cd_cell.proofs.Subtrees.{Contains-first, Contains-cases, subtree-itself, well_formed-subtree, flat_map-listed, same_subtrees}
 use Rattle.cd_cell.proofs.Heights.{height_of-child}
 use Rattle.cd_cell.proofs.Distinct.{AreDistinct-sorted_distinct, Contains-distinct, before-rising}
 use Rattle.cd_cell.proofs.ExportOrder.{export_cmp-total, export_cmp-higher, export_cmp-ties}
@@ -19,7 +19,7 @@ use Rattle.cd_cell.proofs.JoinedTrees.{IsWellFormed-joined_tree}
 use Rattle.cd_cell.proofs.ListTests.{Contains-list_any}
 use Rattle.cd_cell.proofs.Showing.{subtree-known}
 use Rattle.cd_cell.proofs.AppliedUpdates.{find-Some, ok-from, no_refusal, IsNew-applied}
-use Rattle.cd_cell.proofs.ListedTrees.{tree_of-listed, OneByInfo, AreBehind, Contains-dropped}
+use Rattle.cd_cell.proofs.ListedTrees.{tree_of-listed, AreBehind, Contains-dropped}
 use Rattle.cd_update.specs.Hides.{hides_at}
 use Rattle.cd_update.specs.Places.{places}
 use Rattle.cd_update.proofs.EachOnceLaws.{Contains-flat_map_cases}

@@ -1,7 +1,7 @@
 use cd_base::Hash256;
 use cd_boc_read::read_bag;
-use cd_cell::{Bag, Bits, ChildInfo, Face, Hash32, Mask, NewCell, Sha, WeakSum, face_info};
-use cd_prepare::{PrepareFault, prepare_merged, prepare_update, prepare_zero, split_face};
+use cd_cell::{Bag, Bits, ChildInfo, Face, Hash32, Mask, NewCell, Sha, WeakSum};
+use cd_prepare::{PrepareFault, prepare_merged, prepare_update, prepare_zero};
 use cd_update::{GraftFault, PairFault, Update, UpdateFault, graft, pair_old};
 use std::alloc::{AllocError, Global};
 use std::process::Abort;
@@ -534,11 +534,12 @@ fn what_is_refused_of_updates(rt: HostRuntime) -> Result<(), Fail> {
 // ---- updates over the joined tree of two states
 
 // What both states show, the faces beside the hashes that are wanted below the root of the old half, and these hashes,
-// the cells of the bag, and the new root and the listed cells.
+// the cells of the bag, the hash of the joined cell, and the new root and the listed cells.
 struct Merge {
     cells: &'static [Cell],
     left: Shown,
     right: Shown,
+    old: u8,
     faces: &'static [Option<Shape>],
     below: &'static [u8],
     root: Shown,
@@ -565,6 +566,7 @@ const MERGES: [Merge; 5] = [
         cells: &SAME_SPLIT,
         left: LEFT,
         right: RIGHT,
+        old: 0xc4,
         faces: &[],
         below: &[],
         root: Shown::Whole(0xc4, 1),
@@ -581,6 +583,7 @@ const MERGES: [Merge; 5] = [
         ],
         left: LEFT,
         right: RIGHT,
+        old: 0xc4,
         faces: &[],
         below: &[],
         root: Shown::Whole(0x1b, 1),
@@ -595,6 +598,7 @@ const MERGES: [Merge; 5] = [
         ],
         left: LEFT,
         right: RIGHT,
+        old: 0xc4,
         faces: &[],
         below: &[],
         root: Shown::Whole(0xd8, 2),
@@ -613,6 +617,7 @@ const MERGES: [Merge; 5] = [
         ],
         left: LEFT,
         right: Shown::Whole(0x43, 0),
+        old: 3,
         faces: &[Some(BYTE)],
         below: &[3],
         root: Shown::Whole(0x5a, 1),
@@ -631,6 +636,7 @@ const MERGES: [Merge; 5] = [
         ],
         left: LEFT,
         right: RIGHT,
+        old: 0xc4,
         faces: &[],
         below: &[],
         root: Shown::Whole(0x9e, 2),
@@ -646,8 +652,7 @@ fn check_merge(rt: &impl Abort, alloc: Global, row: &Merge) -> Result<(), Fail> 
     let right = info_of(row.right);
     assert!(rt; update.wanted_below(alloc)? == hashes_of(alloc, row.below)?);
     let value = prepare_merged(alloc, &update, &left, &right, &faces)?;
-    let split = face_info::<WeakSum>(&split_face(&left, &right));
-    assert!(rt; value.old() == Some(split.rep()));
+    assert!(rt; value.old() == Some(weak(row.old)));
     assert!(rt; *value.root() == info_of(row.root));
     assert!(rt; hashes_in(alloc, value.cells())? == hashes_of(alloc, row.listed)?);
     Ok(())
