@@ -50,7 +50,8 @@ impl<H: Hash32> Journal<H> {
 
     /// Takes back the last entry, if there is one.
     pub fn take_back(&mut self)
-        ensures { (front : List (Entry H)) (last : Entry H) → self.old ≡ front ++ last ∷ [] → self.new ≡ front }
+        ensures { (front : List (Entry H)) (last : Entry H) → self.old ≡ front ++ last ∷ []
+            → self.new ≡ front }
     {
         let _ = self.entries.pop();
     }
@@ -66,12 +67,14 @@ impl<H: Hash32> Journal<H> {
         }
     }
 
+    /// The entries in place.
     pub fn as_slice(&self) -> &[Entry<H>]
         ensures { result.now ≡ self.now }
     {
         &self.entries
     }
 
+    /// The entries as a `Vec`.
     pub fn into_vec(self) -> Vec<Entry<H>>
         ensures { result.items ≡ self }
     {

@@ -60,10 +60,12 @@ impl<'a, T: Turns> LookUp for PinLook<'a, T> {
     ghost ready = { λ p. is_live p.pin (T.made p.turns.now) ≡ true };
 
     ghost goes = { λ p q. (q.turns.ghost_name ≡ p.turns.ghost_name) × (q.at ≡ p.at) × (q.pin ≡ p.pin)
-        × LooksOn T.worker T.faults T.made T.goes T.named (who_of p.at (T.worker p.turns.now)) p.pin p.turns.now q.turns.now p.asked q.asked };
+        × LooksOn T.worker T.faults T.made T.goes T.named (who_of p.at (T.worker p.turns.now)) p.pin
+        p.turns.now q.turns.now p.asked q.asked };
 
     ghost fails = { λ p q. (q.turns.ghost_name ≡ p.turns.ghost_name) × (q.at ≡ p.at) × (q.pin ≡ p.pin)
-        × LooksAndFails T.worker T.faults T.made T.goes T.named (who_of p.at (T.worker p.turns.now)) p.pin p.turns.now q.turns.now p.asked q.asked };
+        × LooksAndFails T.worker T.faults T.made T.goes T.named (who_of p.at (T.worker p.turns.now)) p.pin
+        p.turns.now q.turns.now p.asked q.asked };
 
     fn look(&mut self, hashes: &[Hash256]) -> Result<Vec<Option<Face>>, LookFault> {
         match self.turns.look(self.at, self.pin, hashes) {
@@ -80,19 +82,27 @@ impl<'a, T: Turns> LookUp for PinLook<'a, T> {
         }
     }
 
-    ghost stays = { λ p. (refl, refl, refl, looks_stay T.worker T.faults T.made T.goes T.named T.stays (who_of p.at (T.worker p.turns.now)) p.pin p.turns.now p.asked) };
+    ghost stays = { λ p. (
+      refl,
+      refl,
+      refl,
+      looks_stay T.worker T.faults T.made T.goes T.named T.stays
+          (who_of p.at (T.worker p.turns.now)) p.pin p.turns.now p.asked,
+    ) };
 
     ghost further = { λ p q r a b. (
       b.0 ∙ a.0,
       b.1 ∙ a.1,
       b.2 ∙ a.2,
-      looks_further T.worker T.faults T.made T.goes T.named T.further p.at q.at p.pin q.pin p.turns.now q.turns.now r.turns.now p.asked q.asked r.asked a.1 a.2 a.3 b.3,
+      looks_further T.worker T.faults T.made T.goes T.named T.further p.at q.at p.pin q.pin
+          p.turns.now q.turns.now r.turns.now p.asked q.asked r.asked a.1 a.2 a.3 b.3,
     ) };
 
     ghost fails_later = { λ p q r a b. (
       b.0 ∙ a.0,
       b.1 ∙ a.1,
       b.2 ∙ a.2,
-      looks_fail_later T.worker T.faults T.made T.goes T.named T.further p.at q.at p.pin q.pin p.turns.now q.turns.now r.turns.now p.asked q.asked r.asked a.1 a.2 a.3 b.3,
+      looks_fail_later T.worker T.faults T.made T.goes T.named T.further p.at q.at p.pin q.pin
+          p.turns.now q.turns.now r.turns.now p.asked q.asked r.asked a.1 a.2 a.3 b.3,
     ) };
 }

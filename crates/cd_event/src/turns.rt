@@ -1,4 +1,5 @@
-ghost use Rattle.std.specs.Prelude.{◌≡◌, ◌≤◌, ℕ, List, [], length, false, IsSome, IfSome, IfOk, OnOk, MatchResult};
+ghost use Rattle.std.specs.Prelude.{◌≡◌, ◌≤◌, ℕ, List, [], length, false};
+ghost use Rattle.std.specs.Prelude.{IsSome, IfSome, IfOk, OnOk, MatchResult};
 ghost use Rattle.cd_cell.specs.Listings.{Fits};
 ghost use Rattle.cd_event.specs.declared.entry.Entry.{Entry};
 ghost use Rattle.cd_event.specs.Replies.{zero_reply, pin_reply, look_reply, merge_reply, unpin_reply, expire_reply};

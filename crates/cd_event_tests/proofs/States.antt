@@ -1,6 +1,6 @@
 -- The empty cell as a state, and what a worker's one pin on it tells.
-use Rattle.std.proofs.Common.{◌≡◌, ℕ, ◌+◌, ◌≤◌, ◌<◌, Bool, true, false, List, [], ◌∷◌, ◌++◌, length, Option, Some, None, refl, sym, ap, ◌∙◌, subst, arith, lit≤, zero, suc, get_or, length-append, inl, inr}
-use Rattle.std.specs.Prelude.{Contains, IfSome, slice_get, if◌then◌else◌}
+use Rattle.std.proofs.Common.{◌≡◌, ℕ, ◌+◌, ◌≤◌, ◌<◌, Bool, true, false, List, [], ◌∷◌, ◌++◌, length, Option, Some, None, refl, sym, ap, ◌∙◌, subst, arith, lit≤, lit<, zero, suc, get_or, length-append, inl, inr}
+use Rattle.std.specs.Prelude.{Contains, All, IfSome, IsTrue, slice_get, take, ◌||◌, if◌then◌else◌}
 use Rattle.std.specs.Option.{option_and_then}
 use Rattle.std.proofs.lemmas.List.Elements.{All-contains, All-from_recursion, All-push}
 use Rattle.std.proofs.lemmas.Option.{slice_get-get_or, get_or_from_slice_get, slice_get_within}
@@ -10,11 +10,16 @@ use Rattle.std.proofs.lemmas.Bool.Decides.{leb_tells}
 use Rattle.cd_base.specs.declared.hash.Hash256.{Hash256}
 use Rattle.cd_cell.specs.declared.info.ChildInfo.{ChildInfo}
 use Rattle.cd_cell.specs.FaceView.{FaceView}
+use Rattle.cd_cell.specs.Infos.{rep_of_info}
 use Rattle.cd_cell.specs.GoodFace.{IsGoodFace}
 use Rattle.cd_cell.specs.Levels.{plain_hash, plain_depth}
 use Rattle.cd_cell.specs.Fit.{IsFaceFit}
 use Rattle.cd_cell.specs.Tree.{Tree, info_of, face_of, rep_of}
 use Rattle.cd_cell.specs.Export.{AreClashFree}
+use Rattle.cd_cell.specs.declared.new_cell.NewCell.{NewCell}
+use Rattle.cd_cell.specs.Levels.{rep_of_face}
+use Rattle.cd_cell.specs.Listings.{IsValid, Fits, listed_at, is_named, info_of_new}
+use Rattle.cd_cell.specs.Equality.{same_info-Decides}
 use Rattle.cd_event.specs.declared.entry.Entry.{Entry}
 use Rattle.cd_event.specs.Pins.{Named, Holds, IsPlain, IsState, AreStates, AddsPin}
 use Rattle.cd_event.specs.Turning.{AreFacesOf, AreGood, AreHeldFaces}
@@ -119,3 +124,30 @@ module _ (H : List ℕ → Hash256) where
       let at : slice_get hashes k ≡ Some (rep_of H empty_state) = asked ∙ ap (λ t. Some (rep_of H t)) is in
       let low : k < length hashes = slice_get_within hashes k (rep_of H empty_state) at in
       far.faces k (let e = end in omega arith) at ∙ ap (λ t. Some (Some (face_of H t))) (sym is)
+
+  abbrev pub its_cells : List NewCell
+  its_cells = (record { hash = rep_of H empty_state; face = face_of H empty_state }) ∷ []
+
+  -- a fact of the first place holds at each
+  at_first : (P : ℕ → Type 0) → P 0 → (k : ℕ) → k < 1 → P k
+  at_first P first k low = let at : 0 ≡ k = omega arith in subst P at first
+
+  -- the value that lists it
+  pub empty_is_valid : IsValid H (info_of H empty_state) its_cells
+  unfolding plain_depth
+  empty_is_valid = record {
+    good = at_first (λ k. IsGoodFace (let c = listed_at its_cells k in c.face)) empty_is_good;
+    hashed = at_first (λ k. (let c = listed_at its_cells k in c.hash) ≡ rep_of_face H (let c = listed_at its_cells k in c.face)) refl;
+    ordered = λ i j d low below. let never : ⊥ = omega arith in absurd never;
+    distinct = λ i j low below _. let is : i ≡ j = omega arith in is;
+    reached = at_first (λ k. IsTrue (is_named H (info_of H empty_state) (take k its_cells) (info_of_new H (listed_at its_cells k)))) (subst (λ b. IsTrue (b || false)) (sym ((same_info-Decides (info_of H empty_state) (info_of H empty_state)).1 refl)) refl);
+    plain = refl;
+    shallow = lit≤ tt;
+  }
+
+  pub empty_fits_whole : Fits H (info_of H empty_state) its_cells []
+  empty_fits_whole = record { top = (0, lit< tt, refl); kids = All-from_recursion (λ (c : NewCell). All (Contains (info_of H empty_state ∷ [])) (let f = c.face in f.kids)) its_cells (All-from_recursion (Contains (info_of H empty_state ∷ [])) [] tt, tt) }
+
+  pub cells_are : (root : ChildInfo) (hash : Hash256) (face : FaceView) (items : List NewCell) → root ≡ info_of H empty_state → hash ≡ rep_of_info root → face ≡ face_of H empty_state
+      → items ≡ [] ++ (record { hash = hash; face = face }) ∷ [] → items ≡ its_cells
+  cells_are root hash face items root_is hash_is face_is are = are ∙ (λ i. (record { hash = (hash_is ∙ ap rep_of_info root_is) i; face = face_is i }) ∷ [])

@@ -1,13 +1,14 @@
 ghost use Rattle.std.specs.Prelude.{◌≡◌, ◌∷◌, ◌++◌, [], false, IfOk, IfSome, OnOk, OnErr, length};
 ghost use Rattle.cd_cell.specs.GoodFace.{IsGoodFace};
+ghost use Rattle.cd_cell.specs.Listings.{Fits};
 ghost use Rattle.cd_cell.specs.Tree.{face_of, info_of, rep_of};
-ghost use Rattle.cd_event.specs.Replies.{who_of};
+ghost use Rattle.cd_event.specs.Replies.{who_of, entry_of};
 ghost use Rattle.cd_event.specs.Turning.{IsStored, AreGood, AreFacesOf};
 ghost use Rattle.cd_event_tests.specs.Tiny.{empty_state};
 
 use cd_base::{Hash256, Memory, one_more};
 use cd_block::{BlockId, BlockIds};
-use cd_cell::{Bits, ChildInfo, Face, Hash32, Prepared, face_info};
+use cd_cell::{Bits, ChildInfo, Face, Hash32, NewCell, Prepared, face_info};
 use cd_event::{
     At, Entry, Event, ExpireFault, Journal, LookFault, MergeFault, PinFault, Pinned, Refusal,
     Reply, Stored, Turns, UnpinFault, Who, ZeroFault,
@@ -42,6 +43,23 @@ fn empty_info<H: Hash32>() -> ChildInfo
     face_info::<H>(&empty_face())
 }
 
+/// The state of the empty cell, listed whole.
+pub fn empty_value<H: Hash32>(alloc: Global) -> Result<Prepared<H>, Memory>
+    ensures old { IfOk result (λ value. value.old ≡ None) }
+    ensures fits { IfOk result (λ value. Fits H.digest_of value.root value.cells []) }
+{
+    let root = empty_info::<H>();
+    let mut cells = Vec::new(alloc);
+    let cell = NewCell {
+        hash: root.rep(),
+        face: empty_face(),
+    };
+    if cells.push(cell).is_err() {
+        return Err(Memory);
+    }
+    Ok(Prepared::new(None, root, cells))
+}
+
 /// The empty cell's face, where this is its hash.
 fn answer<H: Hash32>(hash: &Hash256) -> Option<Face>
     ensures good { IfSome result IsGoodFace }
@@ -71,6 +89,7 @@ fn found_among<H: Hash32>(alloc: Global, hashes: &[Hash256]) -> Result<Vec<Optio
 }
 
 impl<H: Hash32> Tiny<H> {
+    /// A worker of this number that has made no call.
     pub fn new(alloc: Global, worker: u16) -> Tiny<H> {
         Tiny {
             alloc,
