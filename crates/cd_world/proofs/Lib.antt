@@ -13,3 +13,4 @@ pub mod MadeTrees
 pub mod CountLaws
 pub mod BesideHeld
 pub mod SoundWorlds
+pub mod OldInfos
