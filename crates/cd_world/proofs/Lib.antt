@@ -14,3 +14,4 @@ pub mod CountLaws
 pub mod BesideHeld
 pub mod SoundWorlds
 pub mod OldInfos
+pub mod UnfoldedTrees

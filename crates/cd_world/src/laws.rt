@@ -6,6 +6,7 @@ ghost use Rattle.cd_world.specs.OneImage.{OneImage, OneWorld};
 ghost use Rattle.cd_world.specs.Pinning.{PinStays, TreeStays};
 ghost use Rattle.cd_world.specs.Preparing.{StaysClear, StandsForPrepared};
 ghost use Rattle.cd_world.specs.Soundness.{StaysSound};
+ghost use Rattle.cd_world.specs.ToldTrees.{ContentsTellTrees};
 
 use cd_cell::Hash32;
 
@@ -65,4 +66,10 @@ pub fn a_stored_value_is_the_prepared_tree<H: Hash32>()
 /// prepared over it is known without a tree.
 pub fn a_world_knows_the_old_tree<H: Hash32>()
     ensures { OldTreeIsKnown H.digest_of }
+{}
+
+/// The trees that a keeper's contents tell, by unfolding the blocks' roots, are those of the world whose contents they
+/// are.
+pub fn contents_tell_the_trees<H: Hash32>()
+    ensures { ContentsTellTrees H.digest_of }
 {}
