@@ -62,7 +62,7 @@ summed_one : {A : Type 0} (f : A → ℕ) (xs : List A) (x : A) → Contains xs 
 summed_one f xs x h = subst (λ y. f y ≤ sum_by f xs) h.2 (get_or-le-sum_by f xs h.0 x h.1)
 
 -- in a list in order each id has one place
-one_id : (xs : List Descr) → InOrder IsBeforeBlock xs → (a b : Descr) → Contains xs a → Contains xs b → a.id ≡ b.id → a ≡ b
+pub one_id : (xs : List Descr) → InOrder IsBeforeBlock xs → (a b : Descr) → Contains xs a → Contains xs b → a.id ≡ b.id → a ≡ b
 one_id [] up a b in-a in-b same = absurd (Contains-nil a in-a)
 one_id (x ∷ xs) up a b in-a in-b same = by (one_id xs up.1 a b) (Contains-cases x xs a in-a) (Contains-cases x xs b in-b)
   where
@@ -162,7 +162,7 @@ module _ (H : List ℕ → Hash256) where
     info-kids : (s : Tree) → IsWellFormed H s → All IsInfo (face_of H s).kids
     info-kids (cell exotic bits ts) good = all-infos ts good.3
 
-    abbrev record_of : ToldWorld → Tree → Record
+    abbrev pub record_of : ToldWorld → Tree → Record
     record_of t s = record { count = count H t (rep_bytes H s); face = face_of H s }
 
     module _ (t : ToldWorld) (sound : IsSound H t) where
@@ -173,14 +173,14 @@ module _ (H : List ℕ → Hash256) where
       block_of-state : (ds : List Descr) (r : Tree) → Contains (map (λ d. t.state d.id) ds) r → (d : Descr) × Contains ds d × (t.state d.id ≡ r)
       block_of-state ds r h = Contains-map (λ (d : Descr). t.state d.id) ds r h
 
-      well-cell : (s : Tree) → Contains (cells_of t) s → IsWellFormed H s
+      pub well-cell : (s : Tree) → Contains (cells_of t) s → IsWellFormed H s
       well-cell s h =
           let from = flat_map-cases (states_of t) s h in
           let block = block_of-state t.world.blocks from.0 from.1 in
           let sound_block = state_sound block.0 block.1 in
           well_formed-subtree H from.0 s (subst (IsWellFormed H) block.2 sound_block.good) from.2
 
-      IsRecord-cell : (s : Tree) → Contains (cells_of t) s → IsRecord (record_of t s)
+      pub IsRecord-cell : (s : Tree) → Contains (cells_of t) s → IsRecord (record_of t s)
       IsRecord-cell s h =
           let good = well-cell s h in
           record {
@@ -192,7 +192,7 @@ module _ (H : List ℕ → Hash256) where
           }
 
       -- the record of a cell in the image
-      record-cell : (s : Tree) → Contains (cells_of t) s → let c = image H t in get c.cells (rep_bytes H s) ≡ Some (record_text (count H t (rep_bytes H s)) (face_of H s))
+      pub record-cell : (s : Tree) → Contains (cells_of t) s → let c = image H t in get c.cells (rep_bytes H s) ≡ Some (record_text (count H t (rep_bytes H s)) (face_of H s))
       record-cell s h = image-cell H (shown t) (rep_bytes H s) ∙ ap (option_map (λ x. record_text (count H t (rep_bytes H s)) (face_of H x))) (cell_is_held t sound.clear s h)
 
       -- ---- descriptions

@@ -13,3 +13,5 @@ pub mod MadeTrees
 pub mod CountLaws
 pub mod BesideHeld
 pub mod SoundWorlds
+pub mod OldInfos
+pub mod UnfoldedTrees

@@ -86,7 +86,8 @@ settled w = record (stopped w) { blocks = filter (λ d. not d.leaving) w.blocks 
 -- the blocks after each leaving one that is dropped, the least id first, given those that were gone over
 abbrev pub blocks_settling : List Descr → List Descr → List (List Descr)
 blocks_settling over [] = []
-blocks_settling over (d ∷ ds) = if d.leaving then (over ++ ds) ∷ blocks_settling over ds else blocks_settling (over ++ d ∷ []) ds
+blocks_settling over (d ∷ ds) =
+    if d.leaving then (over ++ ds) ∷ blocks_settling over ds else blocks_settling (over ++ d ∷ []) ds
 
 -- the worlds on the way from a stop to the settled world, one for each leaving block
 abbrev pub settling : World → List World

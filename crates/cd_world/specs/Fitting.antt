@@ -20,9 +20,11 @@ trees_of_pins t rows = map t.state (blocks_of rows)
 -- each pin is the worker's, and no entry ends it
 abbrev pub AreLive : {X : Type 0} → World → ℕ → List (Entry X) → List PinRow → Type 0
 AreLive w worker journal [] = Unit {0}
-AreLive w worker journal (row ∷ rows) = ((d : Descr) × IsHeld w worker row.pin row d) × NoneEnds worker row.pin journal × AreLive w worker journal rows
+AreLive w worker journal (row ∷ rows) =
+    ((d : Descr) × IsHeld w worker row.pin row d) × NoneEnds worker row.pin journal × AreLive w worker journal rows
 
 abbrev pub FitsStay : (List ℕ → Hash256) → Type 0 → Type 0
 FitsStay H X = (t : ToldWorld) (journal : List (Entry X)) (worker : ℕ) (rows : List PinRow) (p : PreparedView)
     → AllFollow H t.world journal → AreLive t.world worker journal rows
-    → Fits H p.root p.cells (trees_of_pins t rows) → Fits H p.root p.cells (trees_of_pins (told_replay H t journal) rows)
+    → Fits H p.root p.cells (trees_of_pins t rows)
+    → Fits H p.root p.cells (trees_of_pins (told_replay H t journal) rows)

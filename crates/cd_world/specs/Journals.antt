@@ -11,7 +11,8 @@ use Rattle.cd_world.specs.Trail.{images}
 
 -- the world after two journals is that after the second, from where the first one leads
 abbrev pub ReplayGoesOn : Type 0 → Type 0
-ReplayGoesOn X = (w : World) (first second : List (Entry X)) → replay w (first ++ second) ≡ replay (replay w first) second
+ReplayGoesOn X = (w : World) (first second : List (Entry X))
+    → replay w (first ++ second) ≡ replay (replay w first) second
 
 module _ (H : List ℕ → Hash256) (X : Type 0) where
   -- two journals follow, one after the other, where the second follows from where the first one leads
@@ -25,7 +26,8 @@ module _ (H : List ℕ → Hash256) (X : Type 0) where
 
   abbrev pub ToldFollowingGoesOn : Type 0
   ToldFollowingGoesOn = (limit : ℕ) (t : ToldWorld) (first second : List (Entry X))
-      → AllFollowTold H limit t (first ++ second) ↔ (AllFollowTold H limit t first × AllFollowTold H limit (told_replay H t first) second)
+      → AllFollowTold H limit t (first ++ second)
+      ↔ (AllFollowTold H limit t first × AllFollowTold H limit (told_replay H t first) second)
 
   -- and so does the trail
   abbrev pub TrailGoesOn : Type 0
@@ -34,11 +36,13 @@ module _ (H : List ℕ → Hash256) (X : Type 0) where
 
   -- a world with its trees moves as the world alone
   abbrev pub WorldIsReplayed : Type 0
-  WorldIsReplayed = (t : ToldWorld) (journal : List (Entry X)) → (told_replay H t journal).world ≡ replay t.world journal
+  WorldIsReplayed = (t : ToldWorld) (journal : List (Entry X))
+      → (told_replay H t journal).world ≡ replay t.world journal
 
   -- entries that follow a world with its trees follow the world alone
   abbrev pub ToldFollow : Type 0
-  ToldFollow = (limit : ℕ) (t : ToldWorld) (journal : List (Entry X)) → AllFollowTold H limit t journal → AllFollow H t.world journal
+  ToldFollow = (limit : ℕ) (t : ToldWorld) (journal : List (Entry X))
+      → AllFollowTold H limit t journal → AllFollow H t.world journal
 
   -- what is plain of a sound world stays so, for every keeper
   abbrev pub StaysTidy : Type 0

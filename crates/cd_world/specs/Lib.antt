@@ -8,6 +8,8 @@ pub mod Told
 pub mod Trail
 pub mod Unfolded
 pub mod Journals
+pub mod OldTrees
+pub mod ToldTrees
 pub mod OneImage
 pub mod Pinning
 pub mod Fitting

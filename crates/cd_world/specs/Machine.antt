@@ -38,7 +38,8 @@ two_rows None second = None
 -- the pins that a merge names, in their order; none where one isn't a pin of the worker, or both are one
 abbrev pub rows_at : World → ℕ → ℕ → Option ℕ → Option (List PinRow)
 rows_at w worker pin None = option_map (λ row. row ∷ []) (pin_at w worker pin)
-rows_at w worker pin (Some other) = if nat_eq pin other then None else two_rows (pin_at w worker pin) (pin_at w worker other)
+rows_at w worker pin (Some other) =
+    if nat_eq pin other then None else two_rows (pin_at w worker pin) (pin_at w worker other)
 
 abbrev pub merge_rows : World → ℕ → ℕ → Option ℕ → List PinRow
 merge_rows w worker pin other = unwrap_or (rows_at w worker pin other) []
@@ -89,7 +90,8 @@ no_pin row = refused_if (is_none row) refusal.NoPin
 abbrev pub is_over : PreparedView → Option ChildInfo → Bool
 is_over p None = false
 is_over p (Some old) =
-    nat_le (height_of_info old) GREATEST_DEPTH && list_any (λ stated. same_hash stated (rep_of_info old)) (option_to_list p.old)
+    nat_le (height_of_info old) GREATEST_DEPTH
+    && list_any (λ stated. same_hash stated (rep_of_info old)) (option_to_list p.old)
 
 abbrev pub first_missing : World → List BlockId → Option BlockId
 first_missing w tops = find (λ top. is_none (kept_at w top)) tops
@@ -97,7 +99,8 @@ first_missing w tops = find (λ top. is_none (kept_at w top)) tops
 abbrev pub unexpirable : World → Option Descr → Option Refusal
 unexpirable w None = Some refusal.UnknownBlock
 unexpirable w (Some m) =
-    option_or (refused_if (not (is_master m.id.shard_id)) refusal.NotMaster) (option_map (λ top. refusal.TopMissing top) (first_missing w m.tops))
+    option_or (refused_if (not (is_master m.id.shard_id)) refusal.NotMaster)
+    (option_map (λ top. refusal.TopMissing top) (first_missing w m.tops))
 
 module _ (H : List ℕ → Hash256) where
   abbrev pub unmergeable : World → BlockId → PreparedView → Option (List PinRow) → Option Refusal

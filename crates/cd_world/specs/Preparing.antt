@@ -15,7 +15,8 @@ use Rattle.cd_world.specs.Soundness.{IsStorable}
 module _ (H : List ℕ → Hash256) where
   -- a cell is held, or has the face of a listed one
   abbrev pub IsCellOf : ToldWorld → PreparedView → Tree → Type 0
-  IsCellOf t p s = Contains (flat_map subtrees (states_of t)) s ⊎ ((c : NewCell) × Contains p.cells c × (c.face ≡ face_of H s))
+  IsCellOf t p s =
+      Contains (flat_map subtrees (states_of t)) s ⊎ ((c : NewCell) × Contains p.cells c × (c.face ≡ face_of H s))
 
   -- where a value clashes with nothing held, trees of held and listed cells are free of clashes together with all states
   abbrev pub StaysClear : Type 0
@@ -27,7 +28,8 @@ module _ (H : List ℕ → Hash256) where
   -- the value's root does: that which was prepared
   abbrev pub StandsForPrepared : Type 0
   StandsForPrepared = (t : ToldWorld) (id : BlockId) (tops parents : List BlockId) (p : PreparedView) (tree : Tree)
-      → IsSound H t → IsStorable H id tops p → block_at t.world id ≡ None → All (λ q. IsSome (block_at t.world q)) parents
+      → IsSound H t → IsStorable H id tops p → block_at t.world id ≡ None
+      → All (λ q. IsSome (block_at t.world q)) parents
       → Fits H p.root p.cells (map t.state parents) → first_clash H t p.cells ≡ None
       → info_of H tree ≡ p.root → ((s : Tree) → Contains (subtrees tree) s → IsCellOf t p s)
       → made H p (map t.state parents) ≡ tree

@@ -36,7 +36,8 @@ module _ (H : List ℕ → Hash256) where
     IsAsked t worker (Zero id tops p) = IsStorable id tops p × Fits H p.root p.cells []
     IsAsked t worker (Merge pin other id tops p) =
         IsStorable id tops p × ((rows : List PinRow) → rows_at t.world worker pin other ≡ Some rows
-        → is_over p (old_info H (map (block_at t.world) (blocks_of rows))) ≡ true → Fits H p.root p.cells (map t.state (blocks_of rows)))
+        → is_over p (old_info H (map (block_at t.world) (blocks_of rows))) ≡ true
+        → Fits H p.root p.cells (map t.state (blocks_of rows)))
     IsAsked t worker _ = Unit {0}
 
     -- each event is asked for so

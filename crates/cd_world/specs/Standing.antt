@@ -21,7 +21,9 @@ abbrev pub same_shard : ShardId → ShardId → Bool
 same_shard a b = int_eq a.workchain b.workchain && nat_eq a.shard b.shard
 
 abbrev pub same_id : BlockId → BlockId → Bool
-same_id a b = (same_shard a.shard_id b.shard_id && nat_eq a.seqno b.seqno) && (bytes_eq a.root.0 b.root.0 && bytes_eq a.file.0 b.file.0)
+same_id a b =
+    (same_shard a.shard_id b.shard_id && nat_eq a.seqno b.seqno)
+    && (bytes_eq a.root.0 b.root.0 && bytes_eq a.file.0 b.file.0)
 
 abbrev pub has_id : BlockId → Descr → Bool
 has_id id d = same_id d.id id

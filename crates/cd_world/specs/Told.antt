@@ -99,7 +99,10 @@ module _ (H : List ℕ → Hash256) where
   -- the world with a stored block, before any pin ends
   abbrev pub with_stored : ToldWorld → BlockId → List BlockId → List BlockId → PreparedView → ToldWorld
   with_stored t id parents tops p =
-      record { world = with_block t.world (stored id parents tops p); state = with_state id (made p (map t.state parents)) t.state }
+      record {
+        world = with_block t.world (stored id parents tops p);
+        state = with_state id (made p (map t.state parents)) t.state;
+      }
 
   abbrev pub lesser : NewCell → Option NewCell → NewCell
   lesser c None = c
@@ -150,7 +153,10 @@ module _ (H : List ℕ → Hash256) where
 
     -- the world and its trees after an entry
     abbrev pub told_after : ToldWorld → Entry X → ToldWorld
-    told_after t e = record { world = after t.world e; state = if is_refused e.reply then t.state else stated t e.who.worker e.event }
+    told_after t e = record {
+      world = after t.world e;
+      state = if is_refused e.reply then t.state else stated t e.who.worker e.event;
+    }
 
     -- and after some entries
     abbrev pub told_replay : ToldWorld → List (Entry X) → ToldWorld

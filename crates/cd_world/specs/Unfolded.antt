@@ -36,7 +36,8 @@ kids_of (Some f) = map rep_of_info f.kids
 -- the tree under a hash, down to so many levels
 unfoldable pub tree_in : Contents → ℕ → Hash256 → Tree
 tree_in contents zero hash = no_tree
-tree_in contents (suc levels) hash = over (face_in contents hash.0) (map (tree_in contents levels) (kids_of (face_in contents hash.0)))
+tree_in contents (suc levels) hash =
+    over (face_in contents hash.0) (map (tree_in contents levels) (kids_of (face_in contents hash.0)))
 
 -- a tree has at most 1025 levels
 abbrev pub state_in : Contents → Option Descr → Tree

@@ -1,10 +1,12 @@
 //! What holds of the machine, as contracts of functions that do nothing.
 ghost use Rattle.cd_world.specs.Fitting.{FitsStay};
 ghost use Rattle.cd_world.specs.Journals.{ReplayGoesOn, FollowingGoesOn, ToldReplayGoesOn, ToldFollowingGoesOn, TrailGoesOn, WorldIsReplayed, ToldFollow, StaysTidy};
+ghost use Rattle.cd_world.specs.OldTrees.{OldTreeIsKnown};
 ghost use Rattle.cd_world.specs.OneImage.{OneImage, OneWorld};
 ghost use Rattle.cd_world.specs.Pinning.{PinStays, TreeStays};
 ghost use Rattle.cd_world.specs.Preparing.{StaysClear, StandsForPrepared};
 ghost use Rattle.cd_world.specs.Soundness.{StaysSound};
+ghost use Rattle.cd_world.specs.ToldTrees.{ContentsTellTrees};
 
 use cd_cell::Hash32;
 
@@ -58,4 +60,16 @@ pub fn a_sound_world_stays_sound<H: Hash32>()
 pub fn a_stored_value_is_the_prepared_tree<H: Hash32>()
     ensures clear { StaysClear H.digest_of }
     ensures stands { StandsForPrepared H.digest_of }
+{}
+
+/// What a sound world's descriptions tell of a merge's old tree is what that tree's root shows: so whether a value was
+/// prepared over it is known without a tree.
+pub fn a_world_knows_the_old_tree<H: Hash32>()
+    ensures { OldTreeIsKnown H.digest_of }
+{}
+
+/// The trees that a keeper's contents tell, by unfolding the blocks' roots, are those of the world whose contents they
+/// are.
+pub fn contents_tell_the_trees<H: Hash32>()
+    ensures { ContentsTellTrees H.digest_of }
 {}

@@ -38,6 +38,7 @@ impl<T> Rows<T> {
         }
     }
 
+    /// The items in place.
     pub fn as_slice(&self) -> &[T]
         ensures { result.now ≡ self.now }
     {

@@ -80,8 +80,9 @@ fn blocks_and_pins_are_found(rt: HostRuntime) -> Result<(), Fail> {
 fn what_the_tops_passed_expires(rt: HostRuntime) -> Result<(), Fail> {
     let alloc = rt.alloc();
     let world = world(alloc)?;
-    // a top of the left half, of the seqno of the block there: that one stays, and so does the right half, which the top
-    // doesn't meet; the older block of the whole shard goes, but not the leaving one; and so does the older master block
+    // A top of the left half, of the seqno of the block there: that block stays, and so does the right half's, which
+    // the top doesn't meet. The older block of the whole shard goes, but not the leaving one, and so does the older
+    // master block.
     let mut tops = Vec::new(alloc);
     tops.push(id(0, 0x4000_0000_0000_0000, 3))?;
     let mut master = block(alloc, id(-1, 0x8000_0000_0000_0000, 5), false);
