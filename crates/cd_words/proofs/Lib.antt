@@ -1,0 +1,4 @@
+pub mod ListLaws
+pub mod LineLaws
+pub mod ValueLaws
+pub mod PlainLaws

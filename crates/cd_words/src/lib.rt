@@ -1,0 +1,15 @@
+//! The words of the program: which command they spell, with which options.
+#![tactic(auto)]
+
+mod command;
+mod fault;
+mod line;
+mod names;
+mod reading;
+mod spelling;
+mod values;
+
+pub use command::Command;
+pub use fault::WordFault;
+pub use names::OptionName;
+pub use reading::{client_words, is_run, read_words};
