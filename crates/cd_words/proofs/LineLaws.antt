@@ -1,5 +1,5 @@
 -- Reading a line word by word.
-use Rattle.std.proofs.Common.{◌≡◌, ℕ, ◌<◌, ◌≤◌, suc, drop_of_length-le, List, ◌∷◌, map, drop, length, Option, Some, None, sym, ap, ◌∙◌}
+use Rattle.std.proofs.Common.{◌≡◌, ℕ, ◌<◌, ◌≤◌, suc, drop_of_length-le, List, map, drop, length, Option, Some, sym, ap, ◌∙◌}
 use Rattle.std.specs.Prelude.{option_and_then}
 use Rattle.std.specs.List.{slice_index_or}
 use Rattle.cd_words.specs.Lines.{Text, Said, said_by, words_said}

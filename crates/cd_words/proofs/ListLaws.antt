@@ -1,5 +1,5 @@
 -- Lists that a loop goes through, behind a view.
-use Rattle.std.proofs.Common.{◌≡◌, ℕ, ◌<◌, ◌+◌, suc, Bool, List, [], ◌∷◌, map, drop, length, find, Option, Some, cond, sym, ap, ◌∙◌, drop-cons, arith}
+use Rattle.std.proofs.Common.{◌≡◌, ℕ, ◌<◌, ◌+◌, suc, List, ◌∷◌, map, drop, length, sym, ap, ◌∙◌, drop-cons, arith}
 use Rattle.std.specs.List.{slice_index_or}
 
 -- the part of a list from an element on, seen

@@ -1,8 +1,7 @@
 -- A plain line is read as what it means.
-use Rattle.std.proofs.Common.{◌≡◌, ◌≢◌, ◌⊎◌, ℕ, ◌++◌, ◌&&◌, ◌||◌, not, Bool, true, false, cond, eqb, List, [], ◌∷◌, map, flat_map, find, Option, Some, None, Result, Ok, Err, refl, sym, ap, subst, ◌∙◌, inl, inr, append_assoc, append-nil, arith}
-use Rattle.std.specs.Prelude.{codes, is_some, option_map, option_and_then, MatchResult, IfOk, IfErr}
+use Rattle.std.proofs.Common.{◌≡◌, ◌⊎◌, ◌++◌, ◌||◌, Bool, true, false, cond, eqb, List, [], ◌∷◌, map, flat_map, Option, Some, None, Result, Ok, Err, refl, sym, ap, subst, ◌∙◌, inl, inr, append_assoc, append-nil, arith}
+use Rattle.std.specs.Prelude.{codes, MatchResult, IfOk, IfErr}
 use Rattle.std.specs.List.{AllByRecursion}
-use Rattle.std.specs.Option.{option_map_or}
 use Rattle.cd_block.specs.Parsing.{behind, around}
 use Rattle.cd_words.specs.declared.command.Command.{Command}
 use Rattle.cd_words.specs.declared.fault.WordFault.{WordFault}
@@ -12,11 +11,10 @@ use Rattle.cd_words.specs.declared.names.CommandName.TheVariants as command
 use Rattle.cd_words.specs.declared.names.OptionName.{OptionName}
 use Rattle.cd_words.specs.declared.names.OptionName.TheVariants as option
 use Rattle.cd_words.specs.declared.names.OptionName.TheVariants.{To}
-use Rattle.cd_words.specs.Lines.{Text, Given, Said, Line, value_of, is_given, may_come, option_in, is_value, option_said, value_said, with_option, words_said, options_of, line_of, is_whole}
-use Rattle.cd_words.specs.Names.{name_of, is_same, takes, needs, command_named}
+use Rattle.cd_words.specs.Lines.{Text, Given, Said, Line, is_given, may_come, option_in, is_value, words_said, line_of}
+use Rattle.cd_words.specs.Names.{name_of, is_same, takes, command_named}
 use Rattle.cd_words.specs.Plain.{PlainOption, PlainLine, IsPlainText, IsPlainOption, ComeOnce, IsPlain, option_words, words_of, command_text, meant}
 use Rattle.cd_words.specs.Reading.{IsRefusal}
-use Rattle.cd_words.specs.Spelling.{HasSpelling}
 use Rattle.cd_words.specs.Values.{AreSpelt, IsFirstBad, Spells}
 use Rattle.cd_words.proofs.ValueLaws.{first_value, same_is}
 

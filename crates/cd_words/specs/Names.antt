@@ -1,5 +1,5 @@
 -- Trusted: the names of the commands and of their options, and which command has which option.
-use Rattle.std.specs.Prelude.{ℕ, ◌||◌, Bool, true, false, List, Option, Some, None, codes, if◌then◌else◌}
+use Rattle.std.specs.Prelude.{ℕ, ◌||◌, Bool, List, Option, Some, None, codes, if◌then◌else◌}
 use Rattle.std.specs.Str.{bytes_eq}
 use Rattle.cd_words.specs.declared.names.CommandName.{CommandName}
 use Rattle.cd_words.specs.declared.names.CommandName.TheVariants as command

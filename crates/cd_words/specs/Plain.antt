@@ -1,5 +1,5 @@
 -- Trusted: plain lines, which are never refused.
-use Rattle.std.specs.Prelude.{◌≡◌, ◌≢◌, ◌⊎◌, ℕ, List, [], ◌∷◌, ◌++◌, map, flat_map, Bool, true, false, codes, if◌then◌else◌}
+use Rattle.std.specs.Prelude.{◌≡◌, ◌≢◌, ◌⊎◌, List, [], ◌∷◌, ◌++◌, map, flat_map, Bool, true, false, codes, if◌then◌else◌}
 use Rattle.std.specs.List.{AllByRecursion}
 use Rattle.cd_words.specs.declared.names.CommandName.{CommandName}
 use Rattle.cd_words.specs.declared.names.CommandName.TheVariants as command

@@ -1,5 +1,5 @@
-use Rattle.std.proofs.Common.{◌≡◌, rules, Option, Some, None, map, drop, suc, ◌+◌, sym, ap, ◌∙◌, arith, string_bytes, option_map}
-use Rattle.cd_words.specs.Lines.{Said, words_said, nothing_said, said_by}
+use Rattle.std.proofs.Common.{◌≡◌, rules, Some, None, map, drop, suc, ◌+◌, ap, ◌∙◌, arith, string_bytes, option_map}
+use Rattle.cd_words.specs.Lines.{words_said, said_by}
 use Rattle.cd_words.specs.Views.{given_in, said_now, said_after}
 use Rattle.cd_words.proofs.LineLaws.{word_by_word, all_said}
 use Rattle.cd_words.proofs.line.words_said.Goals as goal

@@ -1,4 +1,4 @@
-use Rattle.std.proofs.Common.{◌≡◌, sym, subst, ◌∙◌, true≢false, inl, inr, refl}
+use Rattle.std.proofs.Common.{sym, subst, ◌∙◌, true≢false, inl, inr, refl}
 use Rattle.cd_words.specs.Values.{AreSpelt, IsFirstBad}
 use Rattle.cd_words.proofs.ListLaws.{seen_at}
 use Rattle.cd_words.proofs.values.first_bad.Goals as goal
