@@ -10,5 +10,6 @@ mod status;
 mod zero;
 
 pub use limits::INPUT_LIMIT;
+pub use cd_words::WordFault;
 pub use once::{Ended, celldb_once};
-pub use status::{InputFault, Status, TopRefusal, WordFault};
+pub use status::{InputFault, Status, TopRefusal};

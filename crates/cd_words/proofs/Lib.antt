@@ -2,3 +2,4 @@ pub mod ListLaws
 pub mod LineLaws
 pub mod ValueLaws
 pub mod PlainLaws
+pub mod CommandLaws

@@ -16,7 +16,7 @@ use Rattle.cd_words.specs.Names.{name_of, is_same, takes, command_named}
 use Rattle.cd_words.specs.Plain.{PlainOption, PlainLine, IsPlainText, IsPlainOption, ComeOnce, IsPlain, option_words, words_of, command_text, meant}
 use Rattle.cd_words.specs.Reading.{IsRefusal}
 use Rattle.cd_words.specs.Values.{AreSpelt, IsFirstBad, Spells}
-use Rattle.cd_words.proofs.ValueLaws.{first_value, same_is}
+use Rattle.cd_words.proofs.ValueLaws.{first_value, none_bad, same_is}
 
 -- ---- one option
 
@@ -135,11 +135,6 @@ plain_is_read line plain =
 plain_is_spelt : (command : CommandName) (options : List PlainOption) → AllByRecursion (IsPlainOption command) options → AreSpelt (map (λ o. (o.option, o.value)) options)
 plain_is_spelt command [] plain = tt
 plain_is_spelt command (o ∷ options) plain = (plain.0.spelt, plain_is_spelt command options plain.1)
-
-none_bad : (o : OptionName) (given : Given) → AreSpelt given → IsFirstBad o given → ⊥
-none_bad o [] spelt bad = bad
-none_bad o (g ∷ given) spelt (inl bad) = bad.1 spelt.0
-none_bad o (g ∷ given) spelt (inr bad) = none_bad o given spelt.1 bad.1
 
 some_is : {A : Type 0} (x y : A) → Some x ≡ Some y → x ≡ y
 some_is x y e = cc

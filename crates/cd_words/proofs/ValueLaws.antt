@@ -1,10 +1,10 @@
 -- The values of a line.
-use Rattle.std.proofs.Common.{◌≡◌, ◌++◌, Bool, true, false, cond, [], ◌∷◌, Option, Some, refl, sym, ap, subst, ◌∙◌}
+use Rattle.std.proofs.Common.{◌≡◌, ◌++◌, Bool, true, false, cond, [], ◌∷◌, Option, Some, refl, sym, ap, subst, ◌∙◌, inl, inr}
 use Rattle.std.proofs.lemmas.Slice.Eq.{bytes_eq-Decides}
 use Rattle.cd_words.specs.Lines.{Text, Given, value_of, paths_of}
 use Rattle.cd_words.specs.Names.{name_of, is_same, option_named}
 use Rattle.cd_words.specs.Spelling.{HasSpelling}
-use Rattle.cd_words.specs.Values.{AreSpelt}
+use Rattle.cd_words.specs.Values.{AreSpelt, IsFirstBad}
 use Rattle.cd_words.specs.declared.names.OptionName.{OptionName}
 use Rattle.cd_words.specs.declared.names.OptionName.TheVariants as option
 use Rattle.cd_words.specs.declared.names.OptionName.TheVariants.{To}
@@ -43,6 +43,11 @@ pub value_spelt : (o : OptionName) (given : Given) (v : Text) → AreSpelt given
 value_spelt o [] v spelt e = absurd cc
 value_spelt o (g ∷ given) v spelt e =
     found_spelt o g (value_of o given) v spelt.0 (value_spelt o given v spelt.1) (is_same g.0 o) refl (sym (first_value o g given (is_same g.0 o) refl) ∙ e)
+
+pub none_bad : (o : OptionName) (given : Given) → AreSpelt given → IsFirstBad o given → ⊥
+none_bad o [] spelt bad = bad
+none_bad o (g ∷ given) spelt (inl bad) = bad.1 spelt.0
+none_bad o (g ∷ given) spelt (inr bad) = none_bad o given spelt.1 bad.1
 
 -- ---- paths
 

@@ -4,4 +4,5 @@ pub mod Lines
 pub mod Values
 pub mod Plain
 pub mod Reading
+pub mod Pages
 pub mod Views

@@ -3,6 +3,7 @@
 
 mod command;
 mod fault;
+mod help;
 mod line;
 mod names;
 mod reading;
@@ -11,5 +12,6 @@ mod values;
 
 pub use command::Command;
 pub use fault::WordFault;
-pub use names::OptionName;
+pub use help::{Page, page_of, page_text};
+pub use names::{CommandName, OptionName};
 pub use reading::{client_words, is_run, read_words};
