@@ -24,6 +24,12 @@ pub record IsNotTaken (words : List (List ℕ)) (fault : WordFault) : Type 0 whe
   pub cause : IsRefusal words fault ⊎ ((fault ≡ word.Usage) × (other : Command) × HasCommand words other)
   pub none : (name : ZeroName) → ¬ IsZeroLine name words
 
+-- the status for words that are refused
+abbrev pub status_by : WordFault → Status
+status_by word.Memory = status.Memory
+status_by word.Usage = status.Usage word.Usage
+status_by (word.BadValue option) = status.Usage (word.BadValue option)
+
 -- how a call over such words ends: with the fault, or for want of memory
 abbrev pub EndsUntaken : List (List ℕ) → Status → Type 0
 EndsUntaken words (status.Usage fault) = IsNotTaken words fault

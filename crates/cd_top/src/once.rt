@@ -1,14 +1,15 @@
-ghost use Rattle.std.specs.Prelude.{◌≡◌, ◌≤◌, length, IfOk, IfErr, IfSome, map, string_bytes};
+ghost use Rattle.std.specs.Prelude.{◌≡◌, ◌≢◌, None, ◌≤◌, length, IfOk, IfErr, IfSome, map, string_bytes};
 ghost use Rattle.cd_cell.specs.Tree.{Tree};
 ghost use Rattle.cd_keeper.specs.Contents.{no_contents};
 ghost use Rattle.cd_top.specs.Zero.{IsListOf, IsPlanOf, IsStateFault, status_of};
+ghost use Rattle.cd_top.specs.declared.zero.ZeroName.{ZeroName};
+ghost use Rattle.cd_top.specs.Call as spec;
 ghost use Rattle.cd_top.specs.Call.{IsZeroLine, EndsUntaken, Ends};
 ghost use Rattle.cd_top.specs.ZeroCall.{IsStateBag, IsRefusal, IsStoring, ZeroEnds};
 
 use crate::limits::INPUT_LIMIT;
 use crate::status::{InputFault, Status, TopRefusal};
 use crate::zero::{Plan, ZeroName, plan_zero};
-
 use cd_base::{ReadAllFault, Sink, Source, read_all, write_all};
 use cd_boc_read::{BagFault, read_bag};
 use cd_cell::{Hash32, MOST_CELLS, Prepared};
@@ -41,6 +42,32 @@ impl<K, H> Ended<K, H> {
     }
 }
 
+/// What a command says of a zero state's name, or the status of a call over another command.
+fn name_in(command: Command) -> Result<ZeroName, Status>
+    ensures found { IfOk result (λ name. command ≡ Command.Zero name.workchain name.file None) }
+    ensures other { IfErr result (λ status. (status ≡ Status.Usage WordFault.Usage)
+        × ((name : ZeroName) → command ≢ Command.Zero name.workchain name.file None)) }
+{
+    match command {
+        Command::Zero {
+            workchain,
+            file,
+            db: None,
+        } => Ok(ZeroName { workchain, file }),
+        _ => Err(Status::Usage(WordFault::Usage)),
+    }
+}
+
+/// The status of a call over words that are refused.
+fn status_by(fault: WordFault) -> Status
+    ensures { result ≡ spec.status_by fault }
+{
+    match fault {
+        WordFault::Memory => Status::Memory,
+        WordFault::Usage | WordFault::BadValue { .. } => Status::Usage(fault),
+    }
+}
+
 /// What the words of `zero` say of the block's name, or the status of a call over other words.
 fn name_of(alloc: Global, words: &[String]) -> Result<ZeroName, Status>
     ensures found { IfOk result (λ name. IsZeroLine name (map string_bytes words.now)) }
@@ -48,8 +75,7 @@ fn name_of(alloc: Global, words: &[String]) -> Result<ZeroName, Status>
 {
     match read_words(alloc, words) {
         Ok(command) => name_in(command),
-        Err(WordFault::Memory) => Err(Status::Memory),
-        Err(fault) => Err(Status::Usage(fault)),
+        Err(fault) => Err(status_by(fault)),
     }
 }
 
