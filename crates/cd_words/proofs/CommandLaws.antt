@@ -1,7 +1,6 @@
 -- Words have one command.
-use Rattle.std.proofs.Common.{◌≡◌, ℕ, ℤ, ◌^◌, ◌≤◌, ◌<◌, pos, List, Option, Some, None, Result, Ok, Err, refl, sym, ap, ap₂, subst, ◌∙◌, arith}
+use Rattle.std.proofs.Common.{◌≡◌, ℕ, ℤ, ◌^◌, ◌<◌, pos, List, Option, Some, None, Result, Ok, refl, sym, ap, subst, ◌∙◌, arith}
 use Rattle.std.specs.Prelude.{String, string_bytes, option_map}
-use Rattle.std.specs.Fmt.{decimal}
 use Rattle.hex.specs.Hex.{decode_sized}
 use Rattle.cd_base.specs.declared.hash.Hash256.{Hash256}
 use Rattle.cd_block.proofs.Numbers.{number_of-decimal}
@@ -10,10 +9,10 @@ use Rattle.cd_words.specs.declared.command.Command.{Command}
 use Rattle.cd_words.specs.declared.command.Command.TheVariants as is
 use Rattle.cd_words.specs.declared.fault.WordFault.{WordFault}
 use Rattle.cd_words.specs.declared.fault.WordFault.TheVariants as fault
-use Rattle.cd_words.specs.Lines.{Text, Given, Line, value_of, line_of}
+use Rattle.cd_words.specs.Lines.{Text, Line}
 use Rattle.cd_words.specs.Reading.{HasCommand, IsRefusal}
-use Rattle.cd_words.specs.Spelling.{IsNumber, IsWorkchain, IsHex}
-use Rattle.cd_words.specs.Values.{AreSpelt, WorkchainIs, FileIs, DbIs, Spells}
+use Rattle.cd_words.specs.Spelling.{IsNumber}
+use Rattle.cd_words.specs.Values.{AreSpelt, WorkchainIs, FileIs, Spells}
 use Rattle.cd_words.proofs.ValueLaws.{none_bad}
 
 some_is : {A : Type 0} (x y : A) → Some x ≡ Some y → x ≡ y

@@ -1,7 +1,7 @@
 ghost use Rattle.std.specs.Prelude.{◌≡◌, map, string_bytes};
 ghost use Rattle.cd_words.specs.Pages as spec;
 
-use crate::names::CommandName;
+use crate::names::{CommandName, OptionName};
 use cd_base::Memory;
 use clap::{Arg, ArgAction, Command};
 use std::alloc::Global;
@@ -14,6 +14,27 @@ pub enum Page {
     /// The program's name and version.
     Version,
 }
+
+/// The commands and the options, in the order of the pages.
+const COMMANDS: [CommandName; 7] = [
+    CommandName::Zero,
+    CommandName::Replay,
+    CommandName::Run,
+    CommandName::Check,
+    CommandName::Export,
+    CommandName::Gen,
+    CommandName::Migrate,
+];
+
+const OPTIONS: [OptionName; 7] = [
+    OptionName::Workchain,
+    OptionName::File,
+    OptionName::Id,
+    OptionName::Max,
+    OptionName::Number,
+    OptionName::Db,
+    OptionName::To,
+];
 
 const VERSION: &str = "0.1.0";
 
@@ -78,20 +99,16 @@ fn program(alloc: Global) -> Result<Command<'static>, Memory> {
         .long("version")
         .action(ArgAction::Version)
         .help("Print the version");
-    let program = Command::new(alloc, "celldb")
+    let mut program = Command::new(alloc, "celldb")
         .about("Keeps the states of a TON node's blocks: each distinct cell once, under its hash.")
         .after_help(STATUSES)
         .version(VERSION)
         .disable_version_flag(true)
         .disable_help_subcommand(true)
-        .arg(version)?
-        .subcommand(command(alloc, CommandName::Zero)?)?
-        .subcommand(command(alloc, CommandName::Replay)?)?
-        .subcommand(command(alloc, CommandName::Run)?)?
-        .subcommand(command(alloc, CommandName::Check)?)?
-        .subcommand(command(alloc, CommandName::Export)?)?
-        .subcommand(command(alloc, CommandName::Gen)?)?
-        .subcommand(command(alloc, CommandName::Migrate)?)?;
+        .arg(version)?;
+    for name in COMMANDS {
+        program = program.subcommand(command(alloc, name)?)?;
+    }
     Ok(program)
 }
 
@@ -99,112 +116,111 @@ fn program(alloc: Global) -> Result<Command<'static>, Memory> {
 fn alone(alloc: Global, name: CommandName) -> Result<Command<'static>, Memory> {
     Ok(
         command(alloc, name)?
-            .bin_name(path_of(name))?
+            .bin_name(text_of(name).path)?
             .after_help("celldb --help has the exit statuses."),
     )
 }
 
-/// How a command is called.
-fn path_of(name: CommandName) -> &'static str {
-    match name {
-        CommandName::Zero => "celldb zero",
-        CommandName::Replay => "celldb replay",
-        CommandName::Run => "celldb run",
-        CommandName::Check => "celldb check",
-        CommandName::Export => "celldb export",
-        CommandName::Gen => "celldb gen",
-        CommandName::Migrate => "celldb migrate",
-    }
-}
-
 /// A command with its options.
 fn command(alloc: Global, name: CommandName) -> Result<Command<'static>, Memory> {
-    let command = match name {
-        CommandName::Zero => Command::new(alloc, "zero")
-            .about(
-                "Reads a state as a bag of cells, stores it as a zero state, prints the block's name and its number of cells",
-            )
-            .arg(valued(
-                alloc,
-                "workchain",
-                "N",
-                "The block's workchain, from 0 to 2147483647; the masterchain without it",
-            ))?
-            .arg(valued(
-                alloc,
-                "file",
-                "HEX",
-                "The hash of the block's file, 64 hexadecimal digits; zeros without it",
-            ))?,
-        CommandName::Replay => Command::new(alloc, "replay")
-            .about(
-                "Reads a feed, does its tasks one after another, prints a line for each (not yet)",
-            )
-            .arg(paths(alloc))?,
-        CommandName::Run => Command::new(alloc, "run")
-            .about(
-                "Reads a feed, does its tasks on a thread for each worker, prints a line for each (not yet)",
-            )
-            .arg(paths(alloc))?,
-        CommandName::Check => {
-            Command::new(alloc, "check").about(
-                "Reads the whole store, prints three totals (not yet)",
-            )
+    let text = text_of(name);
+    let mut command = Command::new(alloc, text.name).about(text.about);
+    for option in OPTIONS {
+        if name.takes(option) {
+            command = command.arg(argument(alloc, name, option))?;
         }
-        CommandName::Export => Command::new(alloc, "export")
-            .about("Writes a block's state to files in slices, prints three lines (not yet)")
-            .arg(valued(alloc, "id", "ID", "The block's name, as zero prints it").required(true))?
-            .arg(valued(
-                alloc,
-                "max",
-                "N",
-                "The greatest size of a slice in bytes, from 1 to 2097152; 2097152 without it",
-            ))?
-            .arg(paths(alloc))?,
-        CommandName::Gen => Command::new(alloc, "gen")
-            .about("Reads nothing, prints the feed of a number (not yet)")
-            .arg(valued(
-                alloc,
-                "number",
-                "N",
-                "The number of the feed, from 0 to 18446744073709551615",
-            )
-            .required(true))?,
-        CommandName::Migrate => Command::new(alloc, "migrate").about(
+    }
+    Ok(command)
+}
+
+/// An option of a command.
+fn argument(alloc: Global, name: CommandName, option: OptionName) -> Arg<'static> {
+    let (value, help) = value_of(option);
+    let action = match option {
+        OptionName::To => ArgAction::Append,
+        _ => ArgAction::Set,
+    };
+    Arg::new(alloc, option.text())
+        .long(option.text())
+        .value_name(value)
+        .help(help)
+        .action(action)
+        .required(name.needs() == Some(option))
+}
+
+/// The name of a command, how it is called, and what it reads and prints.
+#[derive(Clone, Copy)]
+struct CommandText {
+    name: &'static str,
+    path: &'static str,
+    about: &'static str,
+}
+
+fn text_of(name: CommandName) -> CommandText {
+    let (name, path, about) = match name {
+        CommandName::Zero => (
+            "zero",
+            "celldb zero",
+            "Reads a state as a bag of cells, stores it as a zero state, prints the block's name and its number of cells",
+        ),
+        CommandName::Replay => (
+            "replay",
+            "celldb replay",
+            "Reads a feed, does its tasks one after another, prints a line for each (not yet)",
+        ),
+        CommandName::Run => (
+            "run",
+            "celldb run",
+            "Reads a feed, does its tasks on a thread for each worker, prints a line for each (not yet)",
+        ),
+        CommandName::Check => (
+            "check",
+            "celldb check",
+            "Reads the whole store, prints three totals (not yet)",
+        ),
+        CommandName::Export => (
+            "export",
+            "celldb export",
+            "Writes a block's state to files in slices, prints three lines (not yet)",
+        ),
+        CommandName::Gen => (
+            "gen",
+            "celldb gen",
+            "Reads nothing, prints the feed of a number (not yet)",
+        ),
+        CommandName::Migrate => (
+            "migrate",
+            "celldb migrate",
             "Rewrites the store's records of version 1, prints two numbers (not yet)",
         ),
     };
-    match name {
-        CommandName::Gen => Ok(command),
-        _ => Ok(command.arg(valued(
-            alloc,
-            "db",
+    CommandText { name, path, about }
+}
+
+/// What stands for the value of an option, and what it is.
+fn value_of(option: OptionName) -> (&'static str, &'static str) {
+    match option {
+        OptionName::Workchain => (
+            "N",
+            "The block's workchain, from 0 to 2147483647; the masterchain without it",
+        ),
+        OptionName::File => (
+            "HEX",
+            "The hash of the block's file, 64 hexadecimal digits; zeros without it",
+        ),
+        OptionName::Db => (
             "PATH",
             "The database of the store (not yet); in memory without it",
-        ))?),
+        ),
+        OptionName::To => ("PATH", "A file that gets the slices; any number of times"),
+        OptionName::Id => ("ID", "The block's name, as zero prints it"),
+        OptionName::Max => (
+            "N",
+            "The greatest size of a slice in bytes, from 1 to 2097152; 2097152 without it",
+        ),
+        OptionName::Number => (
+            "N",
+            "The number of the feed, from 0 to 18446744073709551615",
+        ),
     }
-}
-
-/// An option with a value.
-fn valued(
-    alloc: Global,
-    name: &'static str,
-    value: &'static str,
-    help: &'static str,
-) -> Arg<'static> {
-    Arg::new(alloc, name)
-        .long(name)
-        .value_name(value)
-        .help(help)
-}
-
-/// The option `--to`.
-fn paths(alloc: Global) -> Arg<'static> {
-    valued(
-        alloc,
-        "to",
-        "PATH",
-        "A file that gets the slices; any number of times",
-    )
-    .action(ArgAction::Append)
 }

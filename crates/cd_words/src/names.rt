@@ -95,13 +95,15 @@ impl OptionName {
         }
     }
 
+    /// Whether it is that option.
     pub fn is(self, other: OptionName) -> bool
         ensures { result ≡ spec.is_same self other }
     {
         self == other
     }
 
-    fn text(self) -> &'static str
+    /// The option's name, without its hyphens.
+    pub fn text(self) -> &'static str
         ensures { result.now ≡ spec.name_of self }
     {
         match self {
