@@ -116,7 +116,8 @@ fn prepared_of<H: Hash32>(alloc: Global, bytes: Vec<u8>) -> Result<Prepared<H>, 
 /// What is to be stored and printed for these bytes, or the status of a call over bytes that are no bag of a state.
 fn plan_of<H: Hash32>(alloc: Global, name: ZeroName, bytes: Vec<u8>) -> Result<Plan, Status>
     ensures found { IfOk result (λ plan. (state : Tree)
-        × IsStateBag H.digest_of bytes.items state × IsPlanOf H.digest_of name state plan.batch (string_bytes plan.text)) }
+        × IsStateBag H.digest_of bytes.items state
+        × IsPlanOf H.digest_of name state plan.batch (string_bytes plan.text)) }
     ensures refused { IfErr result (IsRefusal H.digest_of bytes.items) }
 {
     let value = match prepared_of::<H>(alloc, bytes) {

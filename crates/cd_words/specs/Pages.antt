@@ -1,5 +1,5 @@
 -- Trusted: the pages that words ask for.
-use Rattle.std.specs.Prelude.{ℕ, ◌||◌, List, [], ◌∷◌, Option, Some, None, option_and_then, codes, if◌then◌else◌}
+use Rattle.std.specs.Prelude.{◌≡◌, ℕ, ◌++◌, ◌||◌, List, [], ◌∷◌, Option, Some, None, option_and_then, codes, if◌then◌else◌}
 use Rattle.std.specs.Str.{bytes_eq}
 use Rattle.cd_words.specs.declared.help.Page.{Page}
 use Rattle.cd_words.specs.declared.help.Page.TheVariants.{Help, Version}
@@ -18,3 +18,7 @@ abbrev pub page_of : List (List ℕ) → Option Page
 page_of (word ∷ []) = page_named None word
 page_of (command ∷ word ∷ []) = option_and_then (λ name. page_named (Some name) word) (command_named command)
 page_of _ = None
+
+-- the text's last line has its end
+abbrev pub EndsLine : List ℕ → Type 0
+EndsLine text = (before : List ℕ) × (text ≡ before ++ codes "\n")

@@ -1,5 +1,6 @@
-ghost use Rattle.std.specs.Prelude.{◌≡◌, map, string_bytes};
+ghost use Rattle.std.specs.Prelude.{◌≡◌, ◌++◌, map, codes, IfOk, string_bytes};
 ghost use Rattle.cd_words.specs.Pages as spec;
+ghost use Rattle.cd_words.specs.Pages.{EndsLine};
 
 use crate::names::{CommandName, OptionName};
 use cd_base::Memory;
@@ -81,15 +82,27 @@ fn page_named(command: Option<CommandName>, word: &str) -> Option<Page>
 }
 
 /// The text of a page, with the end of its last line.
-pub fn page_text(alloc: Global, page: Page) -> Result<String, Memory> {
-    let mut text = match page {
+pub fn page_text(alloc: Global, page: Page) -> Result<String, Memory>
+    ensures { IfOk result (λ text. EndsLine (string_bytes text)) }
+{
+    let text = laid_out(alloc, page)?;
+    with_line_end(alloc, text.as_str().trim_end())
+}
+
+fn with_line_end(alloc: Global, text: &str) -> Result<String, Memory>
+    ensures { IfOk result (λ line. string_bytes line ≡ text.now ++ codes "\n") }
+{
+    let mut line = String::from_str(alloc, text)?;
+    line.push_str("\n")?;
+    Ok(line)
+}
+
+fn laid_out(alloc: Global, page: Page) -> Result<String, Memory> {
+    let text = match page {
         Page::Help(None) => program(alloc)?.render_help()?,
         Page::Help(Some(name)) => alone(alloc, name)?.render_help()?,
         Page::Version => program(alloc)?.render_version()?,
     };
-    if !text.as_str().ends_with('\n') {
-        text.push_str("\n")?;
-    }
     Ok(text)
 }
 

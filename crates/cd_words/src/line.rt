@@ -108,7 +108,8 @@ fn option_said<'a>(command: CommandName, given: &[Given<'_>], word: &'a str) -> 
 
 /// What a word says where the value of an option is due.
 fn value_said<'a>(option: OptionName, word: &'a str) -> Option<Said<'a>>
-    ensures { (given : spec.Given) → option_map (said_after given) result ≡ spec.value_said given option word.now }
+    ensures { (given : spec.Given) → option_map (said_after given) result
+        ≡ spec.value_said given option word.now }
 {
     if option.is(OptionName::To) || is_value(word.as_bytes()) {
         Some(Said::Given(Given {
@@ -127,7 +128,8 @@ fn word_said<'a>(
     due: Option<OptionName>,
     word: &'a str,
 ) -> Option<Said<'a>>
-    ensures { option_map (said_after (given_in given.now)) result ≡ said_by command (given_in given.now) due word.now }
+    ensures { option_map (said_after (given_in given.now)) result
+        ≡ said_by command (given_in given.now) due word.now }
 {
     match due {
         None => option_said(command, given, word),
@@ -137,7 +139,8 @@ fn word_said<'a>(
 
 /// Takes up what a word says, and tells which option's value is due then.
 fn take_up<'a>(said: Said<'a>, given: &mut Vec<Given<'a>>) -> Result<Option<OptionName>, WordFault>
-    ensures found { IfOk result (λ due. said_now given.new.items due ≡ said_after (given_in given.old.items) said.entry) }
+    ensures found { IfOk result (λ due. said_now given.new.items due
+        ≡ said_after (given_in given.old.items) said.entry) }
     ensures full { IfErr result (λ fault. fault ≡ WordFault.Memory) }
 {
     match said {
