@@ -39,6 +39,7 @@ fn print_fault<W: fmt::Write>(fault: &PrepareFault, f: &mut fmt::Formatter<W>) -
         PrepareFault::OldDepth { stated, real } => {
             write!(f, "OldDepth {{ stated: {stated}, real: {real} }}")
         }
+        PrepareFault::SplitDeep { depth } => write!(f, "SplitDeep {{ depth: {depth} }}"),
         PrepareFault::Memory => f.write_str("Memory"),
     }
 }

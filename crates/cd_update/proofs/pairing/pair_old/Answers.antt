@@ -19,8 +19,8 @@ returns-in-Err-clause-refused g c =
     let u = tree_of update in
     let root = half_root_refusal H (old_half_of update) c.args.root.now in
     let misfit = option_map (λ x. old_half x) (first_misfit H (beside (wanted_hashes H u) c.args.faces.now) (old_half_of update)) in
-    let split = refusal-half H u is_update.well is_update.kind c.args.root.now c.args.faces.now in
-    refused-as c.in-Err.fault (option_or root misfit) (pair_refusal H u c.args.root.now c.args.faces.now) (sym split) (or-refused c.in-Err.fault root misfit c.in-Err.ensures)
+    let split = refusal-half H u is_update.well is_update.kind c.args.root.now (first_misfit H (beside (wanted_hashes H u) c.args.faces.now) (old_half_of update)) in
+    refused-as c.in-Err.fault (option_or root misfit) (pair_refusal H u c.args.root.now c.args.faces.now) (sym split) (or-refused c.in-Err.fault root misfit c.in-Err.ensures.refused)
 
 pub returns-in-Err-clause-refused_tree : goal.returns-in-Err-clause-refused_tree
 returns-in-Err-clause-refused_tree g c t are =
@@ -48,10 +48,10 @@ returns-in-Err-check_visits-clause-refused g c =
     let u = tree_of update in
     let root = half_root_refusal H (old_half_of update) c.args.root.now in
     let misfit = option_map (λ x. old_half x) (first_misfit H (beside (wanted_hashes H u) faces) (old_half_of update)) in
-    let split = refusal-half H u is_update.well is_update.kind c.args.root.now faces in
+    let split = refusal-half H u is_update.well is_update.kind c.args.root.now (first_misfit H (beside (wanted_hashes H u) faces) (old_half_of update)) in
     let misfits = misfit-half c.in-Ok.half.walked c.in-Ok.ensures faces c.visits.ensures.value in
     refused-as fault (option_or root misfit) (pair_refusal H u c.args.root.now faces) (sym split)
-    (refused-later fault root misfit c.in_default.ensures (refused-as fault _ misfit (ap (option_map (λ x. old_half x)) misfits) c.in-Err-check_visits.ensures))
+    (refused-later fault root misfit c.in_default.ensures.refused (refused-as fault _ misfit (ap (option_map (λ x. old_half x)) misfits) c.in-Err-check_visits.ensures))
 
 pub returns-in-Err-check_visits-clause-refused_tree : goal.returns-in-Err-check_visits-clause-refused_tree
 returns-in-Err-check_visits-clause-refused_tree g c t are =
@@ -71,9 +71,9 @@ returns-in-Ok-infos_of-clause-refused g c =
     let faces = c.args.faces.now in
     let u = tree_of update in
     let misfit = option_map (λ x. old_half x) (first_misfit H (beside (wanted_hashes H u) faces) (old_half_of update)) in
-    let split = refusal-half H u is_update.well is_update.kind c.args.root.now faces in
+    let split = refusal-half H u is_update.well is_update.kind c.args.root.now (first_misfit H (beside (wanted_hashes H u) faces) (old_half_of update)) in
     let misfits = misfit-half c.in-Ok.half.walked c.in-Ok.ensures faces c.visits.ensures.value in
-    split ∙ ap (λ o. option_or o misfit) c.in_default.ensures ∙ ap (option_map (λ x. old_half x)) (sym misfits) ∙ c.in_default-check_visits.ensures
+    split ∙ ap (λ o. option_or o misfit) c.in_default.ensures.refused ∙ ap (option_map (λ x. old_half x)) (sym misfits) ∙ c.in_default-check_visits.ensures
 
 pub returns-in-Ok-infos_of-clause-infos : goal.returns-in-Ok-infos_of-clause-infos
 returns-in-Ok-infos_of-clause-infos g c =
