@@ -2,8 +2,7 @@
 use Rattle.std.proofs.Common.{◌≡◌, ◌≢◌, ◌⊎◌, ◌↔◌, List, [], ◌∷◌, Option, None, Result, Ok, Err, true, refl, ap, sym, ◌∙◌, subst, ⊎_elim, inl, inr, IfOk}
 use Rattle.std.specs.Prelude.{⊤}
 use Rattle.std.specs.declared.alloc.AllocError.{AllocError}
-use Rattle.clap.specs.Words.{App, Kinds, HasKind, IsAmong, Row, Text, fault_of, is_simple, is_simple_and_free, kind_of, subcommand_of}
-use Rattle.clap.specs.declared.error.Error.{Error}
+use Rattle.clap.specs.Words.{Kinds, IsAmong, Row, Text, fault_of, is_simple, is_simple_and_free, subcommand_of}
 use Rattle.clap.specs.declared.error.kind.ErrorKind.{ErrorKind}
 use Rattle.clap.specs.declared.error.kind.ErrorKind.TheVariants as kind
 use Rattle.clap.proofs.OnLiterals.{clap_on_literals}

@@ -1,11 +1,10 @@
 -- Vectors of the definitions: the modes that plain lines ask for, lines that show a text, and lines that are unknown.
-use Rattle.std.proofs.Common.{◌≡◌, List, [], ◌∷◌, Option, Some, None, map, codes, refl}
-use Rattle.clap.specs.Words.{Kinds, Text, fault_of}
+use Rattle.std.proofs.Common.{◌≡◌, List, [], ◌∷◌, Some, None, map, codes, refl}
+use Rattle.clap.specs.Words.{Text, fault_of}
 use Rattle.clap.specs.declared.error.kind.ErrorKind.TheVariants as kind
 use Rattle.clap.proofs.OnLiterals.{clap_on_literals}
 use Rattle.inspect_words.specs.Commands.{inspect}
 use Rattle.inspect_words.specs.Modes.{asked_mode}
-use Rattle.inspect_words.specs.declared.mode.Mode.{Mode}
 use Rattle.inspect_words.specs.declared.mode.Mode.TheVariants as mode
 
 abbrev raw : Text

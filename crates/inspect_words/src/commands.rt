@@ -55,6 +55,7 @@ fn bags<'a>(alloc: Global) -> Result<Command<'a>, AllocError>
 {
     Command::new(alloc, "bags")
         .about("Says of bags of cells what they have, or why they are none")
+        .override_usage("inspect bags [OPTIONS]")
         .after_help(BAGS_EXAMPLE)
         .arg(flag(
             alloc,
@@ -80,6 +81,7 @@ fn updates<'a>(alloc: Global) -> Command<'a>
 {
     Command::new(alloc, "updates")
         .about("Says of Merkle updates of a state what they bring, or why they are refused")
+        .override_usage("inspect updates")
         .after_help(UPDATES_EXAMPLE)
 }
 
@@ -88,7 +90,6 @@ pub(crate) fn inspect<'a>(alloc: Global) -> Result<Command<'a>, AllocError>
     ensures { IfOk result (λ command. app_of command ≡ spec.inspect) }
 {
     Command::new(alloc, "inspect")
-        .bin_name("inspect")?
         .version(VERSION)
         .about(
             "Says of bags of cells and of Merkle updates what they have, or why they are refused",

@@ -1,6 +1,6 @@
 -- The commands are those of the definition, so their matches and faults are those of the words.
-use Rattle.std.proofs.Common.{◌≡◌, List, [], sym, ap, ◌∙◌, subst, map, string_bytes, true, Some, None}
-use Rattle.clap.specs.Words.{App, HasMatchesOf, HasKind, Text, app_of, fault_of, is_simple_and_free, kind_of, subcommand_of, subcommand_rows_of}
+use Rattle.std.proofs.Common.{◌≡◌, List, [], sym, ◌∙◌, subst, map, string_bytes, true}
+use Rattle.clap.specs.Words.{HasMatchesOf, HasKind, Text, app_of, fault_of, is_simple_and_free, kind_of, subcommand_rows_of}
 use Rattle.inspect_words.specs.Commands.{inspect}
 use Rattle.inspect_words.proofs.AskedLaws.{inspect_is_free, inspect_is_simple, asked-found, shown-found, asked-refused, text-refused, shown-refused}
 use Rattle.inspect_words.proofs.asked.read_words.Goals as goal

@@ -1,5 +1,5 @@
 -- The first value of a flag's entry is that of its row.
-use Rattle.std.proofs.Common.{◌≡◌, List, Option, Some, None, false, codes, ap, sym, ◌∙◌, option_map}
+use Rattle.std.proofs.Common.{◌≡◌, Option, Some, None, false, codes, ap, sym, ◌∙◌, option_map}
 use Rattle.std.specs.Option.{option_map_or}
 use Rattle.std.specs.Str.{bytes_eq}
 use Rattle.clap.specs.Words.{Text, first_of, found_of, rows_of}
