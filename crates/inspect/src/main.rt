@@ -1,4 +1,4 @@
-//! Says of bags of cells and of Merkle updates what they have or why they are refused.
+//! Says of bags of cells, Merkle updates and feeds what they have or why they are refused.
 #![tactic(auto)]
 
 mod answer;

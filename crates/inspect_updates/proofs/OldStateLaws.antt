@@ -50,7 +50,7 @@ face_in-None (x ∷ xs) hash none = go (same_hash hash x.hash) none (λ e. face_
     go false e behind = behind e
 
 -- beside a hash stands what was looked up for it
-beside-mapped : (look : Hash256 → Option FaceView) (hashes : List Hash256) (hash : Hash256) → Contains hashes hash → beside hashes (map look hashes) hash ≡ look hash
+pub beside-mapped : (look : Hash256 → Option FaceView) (hashes : List Hash256) (hash : Hash256) → Contains hashes hash → beside hashes (map look hashes) hash ≡ look hash
 beside-mapped look [] hash h = absurd (Contains-nil hash h)
 beside-mapped look (w ∷ ws) hash h = go (same_hash w hash) refl (λ later. beside-mapped look ws hash later)
   where
@@ -98,7 +98,7 @@ IsIndexed-more old new cells place next is in' pushed index =
 
 module _ (H : List ℕ → Hash256) where
   mutual
-    well_formed-good : (t : Tree) → ((s : Tree) → Contains (subtrees t) s → IsGoodFace (face_of H s)) → IsWellFormed H t
+    pub well_formed-good : (t : Tree) → ((s : Tree) → Contains (subtrees t) s → IsGoodFace (face_of H s)) → IsWellFormed H t
     well_formed-good (cell exotic bits ts) good =
         let here = good (cell exotic bits ts) (subtree-itself (cell exotic bits ts)) in
         (here.bits, omega (arith, here.kids, length-infos_of H ts), here.fit, well_formed-all ts (λ s h. good s (Contains-later (cell exotic bits ts) (subtrees_of_all ts) s h)))
@@ -129,7 +129,7 @@ module _ (H : List ℕ → Hash256) where
     cells = value.cells
 
     -- each cell of the state is found by its hash
-    face_in-subtree : (s : Tree) → Contains (subtrees t) s → face_in cells (rep_of H s) ≡ Some (face_of H s)
+    pub face_in-subtree : (s : Tree) → Contains (subtrees t) s → face_in cells (rep_of H s) ≡ Some (face_of H s)
     face_in-subtree s sub =
         face_in-Some cells (rep_of H s) (face_of H s)
         (λ c h same.

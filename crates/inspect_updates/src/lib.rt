@@ -8,5 +8,5 @@ mod update_verdict;
 
 pub use old_state::{OldState, state_of_line};
 pub use refusal::Refusal;
-pub use texts::updates_text;
+pub use texts::{push_state, updates_text};
 pub use update_verdict::{UpdateVerdict, update_verdict_of, update_verdict_of_line};

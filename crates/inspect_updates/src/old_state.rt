@@ -75,7 +75,7 @@ impl<H: Hash32> OldState<H> {
     }
 
     /// The face of the state's cell of this hash, if it has one.
-    fn face(&self, hash: &Hash256) -> Option<&Face>
+    pub fn face(&self, hash: &Hash256) -> Option<&Face>
         ensures { MatchOption result (face_in self.now.whole.cells hash.now ≡ None)
             (λ face. face_in self.now.whole.cells hash.now ≡ Some face.now) }
     {

@@ -5,7 +5,7 @@ use inspect_lines::{NOT_HEXADECIMAL, lines_of, push_line};
 use std::alloc::{AllocError, Global};
 
 /// One line more for the state of a line, which is given; `None` where it has none.
-fn push_state<H: Hash32>(
+pub fn push_state<H: Hash32>(
     alloc: Global,
     text: &mut String,
     line: &[u8],

@@ -29,6 +29,10 @@ pub updates_mode : asked_mode (codes "updates" ∷ []) ≡ Some mode.Updates
 unfolding clap_on_literals
 updates_mode = refl
 
+pub feed_mode : asked_mode (codes "feed" ∷ []) ≡ Some mode.Feed
+unfolding clap_on_literals
+feed_mode = refl
+
 pub unknown_lines : map asked_mode
     ([] ∷ (raw ∷ []) ∷ (codes "bag" ∷ []) ∷ bags_with (raw ∷ raw ∷ []) ∷ bags_with (levels ∷ export ∷ []) ∷ bags_with (codes "x" ∷ []) ∷ (codes "updates" ∷ raw ∷ []) ∷ [])
     ≡ None ∷ None ∷ None ∷ None ∷ None ∷ None ∷ None ∷ []

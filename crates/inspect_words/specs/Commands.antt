@@ -13,11 +13,17 @@ bags = with_rule (with_rule (with_rule (new_app (codes "bags")) (flag (codes "ra
 abbrev pub updates : App
 updates = new_app (codes "updates")
 
+abbrev pub feed : App
+feed = new_app (codes "feed")
+
 -- no word is the program's name, a command is required, and there is no command `help`
 abbrev pub without_commands : App
 without_commands = on_top
     (λ s. record s { has_version = true; no_binary_name = true; disable_help_subcommand = true; subcommand_required = true })
     (new_app (codes "inspect"))
 
+abbrev pub first_commands : App
+first_commands = with_subcommand (with_subcommand without_commands bags.top) updates.top
+
 abbrev pub inspect : App
-inspect = with_subcommand (with_subcommand without_commands bags.top) updates.top
+inspect = with_subcommand first_commands feed.top

@@ -9,7 +9,7 @@ use std::alloc::{AllocError, Global};
 const VERSION: &str = "1";
 
 const TOP_EXAMPLE: &str = "\
-For each bag or update there is a line on standard output: what it has, or the first fault with its fields.
+For each bag, update or feed there is a line on standard output: what it has, or the first fault with its fields.
 The status is 0 where all was read and printed, 1 where that failed, and 2 where the words are unknown.
 
 Example:
@@ -36,6 +36,16 @@ Example:
     ok roots 1 cells 1023
     ok shown 191 new 191 root 6e7f..
     OldHash { stated: abab.., real: 96a2.. }";
+
+const FEED_EXAMPLE: &str = "\
+Reads a feed as bytes from standard input. There is a line `ok phases N tasks N`, and behind it a line for each task,
+by phase, worker and place from 0: its kind, its ids, and how many tops, bytes of its bag or steps of its path it has,
+or the greatest size of its slices. Where the bytes are no feed, there is their first fault.
+
+Example:
+    $ inspect feed < feed.bin
+    ok phases 1 tasks 1
+    0.0.0 zero (-1,8000000000000000,0):96a2..:0000.. tops 0 bag 13";
 
 /// An option without a value.
 fn flag<'a>(alloc: Global, name: &'a str, help: &'a str) -> Arg<'a>
@@ -85,14 +95,25 @@ fn updates<'a>(alloc: Global) -> Command<'a>
         .after_help(UPDATES_EXAMPLE)
 }
 
-/// All commands.
-pub(crate) fn inspect<'a>(alloc: Global) -> Result<Command<'a>, AllocError>
-    ensures { IfOk result (λ command. app_of command ≡ spec.inspect) }
+/// The command `feed`.
+fn feed<'a>(alloc: Global) -> Command<'a>
+    ensures app { app_of result ≡ spec.feed }
+    ensures local { (fields_of result).has_globals ≡ false }
+{
+    Command::new(alloc, "feed")
+        .about("Says of a feed which tasks it has, or why it is none")
+        .override_usage("inspect feed")
+        .after_help(FEED_EXAMPLE)
+}
+
+/// The commands on bags and on updates of one state.
+fn first_commands<'a>(alloc: Global) -> Result<Command<'a>, AllocError>
+    ensures { IfOk result (λ command. app_of command ≡ spec.first_commands) }
 {
     Command::new(alloc, "inspect")
         .version(VERSION)
         .about(
-            "Says of bags of cells and of Merkle updates what they have, or why they are refused",
+            "Says of bags of cells, Merkle updates and feeds what they have, or why they are refused",
         )
         .after_help(TOP_EXAMPLE)
         .no_binary_name(true)
@@ -100,4 +121,11 @@ pub(crate) fn inspect<'a>(alloc: Global) -> Result<Command<'a>, AllocError>
         .subcommand_required(true)
         .subcommand(bags(alloc)?)?
         .subcommand(updates(alloc))
+}
+
+/// All commands.
+pub(crate) fn inspect<'a>(alloc: Global) -> Result<Command<'a>, AllocError>
+    ensures { IfOk result (λ command. app_of command ≡ spec.inspect) }
+{
+    first_commands(alloc)?.subcommand(feed(alloc))
 }

@@ -19,6 +19,8 @@ pub enum Mode {
     RawLevels,
     /// A state in the first line of the input, and a line for each line behind it, which has an update.
     Updates,
+    /// A line for the feed that the input is, and one for each of its tasks.
+    Feed,
 }
 
 /// Whether a flag is given.
@@ -57,6 +59,7 @@ impl Mode {
                 is_given(flags, "levels"),
             ),
             Some(("updates", _)) => Some(Mode::Updates),
+            Some(("feed", _)) => Some(Mode::Feed),
             _ => None,
         }
     }
