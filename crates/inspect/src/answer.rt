@@ -7,6 +7,7 @@ use cd_base::{ReadAllFault, Sink, Source, read_all, write_all};
 use cd_cell::Hash32;
 use inspect_bags::{export_text, levels_text, lines_text, raw_levels_text, raw_text};
 use inspect_feed::feed_text;
+use inspect_merged::merged_text;
 use inspect_updates::updates_text;
 use inspect_words::Mode;
 use std::alloc::{AllocError, Global};
@@ -20,6 +21,7 @@ fn text_of<H: Hash32>(alloc: Global, mode: Mode, input: &[u8]) -> Result<Vec<u8>
         Mode::Levels => Ok(levels_text::<H>(alloc, input)?.into_bytes()),
         Mode::RawLevels => Ok(raw_levels_text::<H>(alloc, input)?.into_bytes()),
         Mode::Updates => Ok(updates_text::<H>(alloc, input)?.into_bytes()),
+        Mode::Merged => Ok(merged_text::<H>(alloc, input)?.into_bytes()),
         Mode::Feed => Ok(feed_text(alloc, input)?.into_bytes()),
     }
 }

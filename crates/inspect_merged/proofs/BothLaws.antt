@@ -1,5 +1,5 @@
 -- Laws of two states: the faces of both, where they are free of clashes together.
-use Rattle.std.proofs.Common.{◌≡◌, ℕ, ◌<◌, Bool, true, false, true≢false, not, if◌then◌else◌, List, [], ◌∷◌, ◌+◌, length, get_or, map, drop, Contains, Option, Some, None, refl, ap, sym, ◌∙◌, subst, ⊎_elim, absurd}
+use Rattle.std.proofs.Common.{◌≡◌, ℕ, ◌<◌, Bool, true, false, true≢false, not, if◌then◌else◌, List, [], ◌∷◌, ◌+◌, length, get_or, map, drop, Contains, Option, Some, None, refl, ap, sym, ◌∙◌, subst, ⊎_elim}
 use Rattle.std.specs.Prelude.{find}
 use Rattle.std.specs.Option.{option_map, option_map_or, option_or}
 use Rattle.cd_base.specs.declared.hash.Hash256.{Hash256}
@@ -22,11 +22,11 @@ use Rattle.inspect_merged.specs.BothStates.{clash_between, clashes_with, face_in
 -- where no cell clashes, none of them does
 clash_free : (left right : List NewCell) → clash_between left right ≡ None → (c : NewCell) → Contains right c → clashes_with left c ≡ false
 clash_free left [] none c h = absurd (Contains-nil c h)
-clash_free left (x ∷ xs) none c h = go (clashes_with left x) refl none
+clash_free left (x ∷ xs) none c h = go (clashes_with left x) refl none (λ rest later. clash_free left xs rest c later)
   where
-    go : (b : Bool) → clashes_with left x ≡ b → option_map (λ (d : NewCell). d.hash) (if b then Some x else find (clashes_with left) xs) ≡ None → clashes_with left c ≡ false
-    go true is bad = absurd (cc bad)
-    go false is rest = ⊎_elim (λ same. ap (clashes_with left) (sym same) ∙ is) (λ later. clash_free left xs rest c later) (Contains-cases x xs c h)
+    go : (b : Bool) → clashes_with left x ≡ b → option_map (λ (d : NewCell). d.hash) (if b then Some x else find (clashes_with left) xs) ≡ None → (clash_between left xs ≡ None → Contains xs c → clashes_with left c ≡ false) → clashes_with left c ≡ false
+    go true is bad behind = absurd (cc bad)
+    go false is rest behind = ⊎_elim (λ same. ap (clashes_with left) (sym same) ∙ is) (λ later. behind rest later) (Contains-cases x xs c h)
 
 -- a cell that doesn't clash has the face of the cell of its hash
 same_unless_clash : (o : Option FaceView) (f g : FaceView) → option_map_or (λ face. not (same_face face g)) o false ≡ false → o ≡ Some f → f ≡ g
@@ -36,13 +36,6 @@ same_unless_clash (Some x) f g none is = go (same_face x g) refl none
     go : (b : Bool) → same_face x g ≡ b → not b ≡ false → f ≡ g
     go true same none = cc (is) ∙ (same_face-Decides x g).0 same
     go false same none = absurd (true≢false none)
-
--- one step more of the search
-pub clash_between-step : (left right : List NewCell) (c : NewCell) → clashes_with left c ≡ false → clash_between left (c ∷ right) ≡ clash_between left right
-clash_between-step left right c none = ap (λ b. option_map (λ (d : NewCell). d.hash) (if b then Some c else find (clashes_with left) right)) none
-
-pub clash_between-found : (left right : List NewCell) (c : NewCell) → clashes_with left c ≡ true → clash_between left (c ∷ right) ≡ Some c.hash
-clash_between-found left right c found = ap (λ b. option_map (λ (d : NewCell). d.hash) (if b then Some c else find (clashes_with left) right)) found
 
 module _ (H : List ℕ → Hash256) (l r : PreparedView) (left : IsState H l) (right : IsState H r) (together : clash_between l.cells r.cells ≡ None) where
   face-right : (s : Tree) → Contains (subtrees (state_of H r)) s → face_in_both l.cells r.cells (rep_of H s) ≡ Some (face_of H s)

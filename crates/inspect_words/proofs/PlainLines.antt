@@ -29,6 +29,10 @@ pub updates_mode : asked_mode (codes "updates" ∷ []) ≡ Some mode.Updates
 unfolding clap_on_literals
 updates_mode = refl
 
+pub merged_mode : asked_mode (codes "merged" ∷ []) ≡ Some mode.Merged
+unfolding clap_on_literals
+merged_mode = refl
+
 pub feed_mode : asked_mode (codes "feed" ∷ []) ≡ Some mode.Feed
 unfolding clap_on_literals
 feed_mode = refl

@@ -13,6 +13,9 @@ bags = with_rule (with_rule (with_rule (new_app (codes "bags")) (flag (codes "ra
 abbrev pub updates : App
 updates = new_app (codes "updates")
 
+abbrev pub merged : App
+merged = new_app (codes "merged")
+
 abbrev pub feed : App
 feed = new_app (codes "feed")
 
@@ -26,4 +29,4 @@ abbrev pub first_commands : App
 first_commands = with_subcommand (with_subcommand without_commands bags.top) updates.top
 
 abbrev pub inspect : App
-inspect = with_subcommand first_commands feed.top
+inspect = with_subcommand (with_subcommand first_commands merged.top) feed.top

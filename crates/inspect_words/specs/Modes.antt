@@ -29,7 +29,8 @@ command_mode name rows =
     if bytes_eq name (codes "bags")
     then bags_mode (is_set (codes "raw") rows) (is_set (codes "export") rows) (is_set (codes "levels") rows)
     else (if bytes_eq name (codes "updates") then Some mode.Updates
-    else (if bytes_eq name (codes "feed") then Some mode.Feed else None))
+    else (if bytes_eq name (codes "merged") then Some mode.Merged
+    else (if bytes_eq name (codes "feed") then Some mode.Feed else None)))
 
 -- the mode by the command that was found, and its flags
 abbrev pub mode_in : Option (Text × List Row) → Option Mode

@@ -37,6 +37,19 @@ Example:
     ok shown 191 new 191 root 6e7f..
     OldHash { stated: abab.., real: 96a2.. }";
 
+const MERGED_EXAMPLE: &str = "\
+Reads two states, left and right, from the first two lines of standard input, and from each other line a Merkle update
+of their joined tree, as a block has it that follows the merge of two shards. Each state has its line, or the right one
+`Clash { hash: H }` where a cell of it and one of the left differ under one hash. The lines of the updates are those of
+`inspect updates`; the cells that an update shows are those below the joined one.
+
+Example:
+    $ cat left.hex right.hex updates.hex | inspect merged
+    ok roots 1 cells 7
+    ok roots 1 cells 9
+    ok shown 4 new 3 root 74f6..
+    SplitDeep { depth: 1025 }";
+
 const FEED_EXAMPLE: &str = "\
 Reads a feed as bytes from standard input. There is a line `ok phases N tasks N`, and behind it a line for each task,
 by phase, worker and place from 0: its kind, its ids, and how many tops, bytes of its bag or steps of its path it has,
@@ -95,6 +108,17 @@ fn updates<'a>(alloc: Global) -> Command<'a>
         .after_help(UPDATES_EXAMPLE)
 }
 
+/// The command `merged`.
+fn merged<'a>(alloc: Global) -> Command<'a>
+    ensures app { app_of result ≡ spec.merged }
+    ensures local { (fields_of result).has_globals ≡ false }
+{
+    Command::new(alloc, "merged")
+        .about("Says the same of updates of the joined tree of two states")
+        .override_usage("inspect merged")
+        .after_help(MERGED_EXAMPLE)
+}
+
 /// The command `feed`.
 fn feed<'a>(alloc: Global) -> Command<'a>
     ensures app { app_of result ≡ spec.feed }
@@ -127,5 +151,7 @@ fn first_commands<'a>(alloc: Global) -> Result<Command<'a>, AllocError>
 pub(crate) fn inspect<'a>(alloc: Global) -> Result<Command<'a>, AllocError>
     ensures { IfOk result (λ command. app_of command ≡ spec.inspect) }
 {
-    first_commands(alloc)?.subcommand(feed(alloc))
+    first_commands(alloc)?
+        .subcommand(merged(alloc))?
+        .subcommand(feed(alloc))
 }

@@ -19,6 +19,9 @@ pub enum Mode {
     RawLevels,
     /// A state in the first line of the input, and a line for each line behind it, which has an update.
     Updates,
+    /// Two states in the first two lines of the input, and a line for each line behind them, which has an update of their
+    /// joined tree.
+    Merged,
     /// A line for the feed that the input is, and one for each of its tasks.
     Feed,
 }
@@ -59,6 +62,7 @@ impl Mode {
                 is_given(flags, "levels"),
             ),
             Some(("updates", _)) => Some(Mode::Updates),
+            Some(("merged", _)) => Some(Mode::Merged),
             Some(("feed", _)) => Some(Mode::Feed),
             _ => None,
         }
