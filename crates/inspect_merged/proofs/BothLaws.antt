@@ -1,5 +1,5 @@
 -- Laws of two states: the faces of both, where they are free of clashes together.
-use Rattle.std.proofs.Common.{◌≡◌, ℕ, ◌<◌, Bool, true, false, true≢false, not, if◌then◌else◌, List, [], ◌∷◌, ◌+◌, length, get_or, map, drop, Contains, Option, Some, None, refl, ap, sym, ◌∙◌, subst, ⊎_elim}
+use Rattle.std.proofs.Common.{◌≡◌, ℕ, Bool, true, false, true≢false, not, if◌then◌else◌, List, [], ◌∷◌, map, Contains, Option, Some, None, refl, ap, sym, ◌∙◌, subst, ⊎_elim}
 use Rattle.std.specs.Prelude.{find}
 use Rattle.std.specs.Option.{option_map, option_map_or, option_or}
 use Rattle.cd_base.specs.declared.hash.Hash256.{Hash256}
@@ -7,7 +7,7 @@ use Rattle.cd_cell.specs.declared.info.ChildInfo.{ChildInfo}
 use Rattle.cd_cell.specs.declared.new_cell.NewCell.{NewCell}
 use Rattle.cd_cell.specs.FaceView.{FaceView}
 use Rattle.cd_cell.specs.PreparedView.{PreparedView}
-use Rattle.cd_cell.specs.Tree.{Tree, subtrees, face_of, rep_of, mask_of}
+use Rattle.cd_cell.specs.Tree.{Tree, subtrees, face_of, rep_of}
 use Rattle.cd_cell.specs.Equality.{same_face, same_face-Decides}
 use Rattle.cd_cell.specs.Export.{distinct_cells}
 use Rattle.cd_cell.specs.Listings.{new_cell_of, old_cells}
