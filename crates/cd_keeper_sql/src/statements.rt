@@ -25,7 +25,7 @@ pub struct Statements {
 }
 
 /// Want of memory is told apart; each other refusal of the database is a fault.
-pub fn fault_of(error: Error) -> KeepFault {
+pub(crate) fn fault_of(error: Error) -> KeepFault {
     match error {
         Error::SqliteFailure(ErrorCode::OutOfMemory) => KeepFault::Memory,
         _ => KeepFault::Failed,
@@ -79,7 +79,7 @@ fn statements_of_descs<S: Alter>(
 
 impl Statements {
     /// Makes both tables where they aren't there, and prepares the statements.
-    pub fn prepare<S: Alter>(database: &mut Connection<S>) -> Result<Statements, KeepFault> {
+    pub(crate) fn prepare<S: Alter>(database: &mut Connection<S>) -> Result<Statements, KeepFault> {
         match database.execute_batch(MAKE_TABLES) {
             Ok(()) => {}
             Err(error) => return Err(fault_of(error)),

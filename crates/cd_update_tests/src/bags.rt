@@ -8,7 +8,7 @@ use std::test::Fail;
 
 // The bytes of a cell.
 #[derive(Clone, Copy)]
-pub enum Stem {
+pub(crate) enum Stem {
     Bytes(&'static [u8]),
     // A pruned branch of a mask of one bit, for a cell of this hash and of depth 0.
     Pruned(u8, u8),
@@ -23,9 +23,9 @@ pub enum Stem {
 // A cell as its text has it: the first byte (the number of its children, 8 where it is exotic, 32 times its mask), its
 // bytes, and the numbers of its children.
 #[derive(Clone, Copy)]
-pub struct Cell(pub u8, pub Stem, pub &'static [u16]);
+pub(crate) struct Cell(pub(crate) u8, pub(crate) Stem, pub(crate) &'static [u16]);
 
-pub fn bytes_of(alloc: Global, stem: &Stem) -> Result<Vec<u8>, AllocError> {
+pub(crate) fn bytes_of(alloc: Global, stem: &Stem) -> Result<Vec<u8>, AllocError> {
     match *stem {
         Stem::Bytes(bytes) => bytes.to_vec(alloc),
         Stem::Pruned(mask, hash) => ending(alloc, &[1, mask], 36, &[(33, hash)]),
@@ -41,7 +41,7 @@ pub fn bytes_of(alloc: Global, stem: &Stem) -> Result<Vec<u8>, AllocError> {
 }
 
 // So many bytes: these first ones, these in their places, and zeros.
-pub fn ending(
+pub(crate) fn ending(
     alloc: Global,
     first: &[u8],
     count: usize,
@@ -60,7 +60,7 @@ pub fn ending(
     Ok(bytes)
 }
 
-pub fn put(
+pub(crate) fn put(
     text: &mut Vec<u8>,
     first: u8,
     bytes: &[u8],
@@ -77,7 +77,7 @@ pub fn put(
 
 // The bag of so many cells with this text, of which so many from the first on are roots. Numbers and offsets take two
 // bytes.
-pub fn bag_of_text<H: Hash32>(
+pub(crate) fn bag_of_text<H: Hash32>(
     alloc: Global,
     roots: u16,
     count: u16,
@@ -98,7 +98,7 @@ pub fn bag_of_text<H: Hash32>(
     }
 }
 
-pub fn bag_of(alloc: Global, roots: u16, cells: &[Cell]) -> Result<Bag<WeakSum>, Fail> {
+pub(crate) fn bag_of(alloc: Global, roots: u16, cells: &[Cell]) -> Result<Bag<WeakSum>, Fail> {
     let mut text = Vec::new(alloc);
     for cell in cells {
         put(&mut text, cell.0, &bytes_of(alloc, &cell.1)?, cell.2)?;
@@ -107,13 +107,13 @@ pub fn bag_of(alloc: Global, roots: u16, cells: &[Cell]) -> Result<Bag<WeakSum>,
     bag_of_text(alloc, roots, count, &text)
 }
 
-pub fn weak(last: u8) -> Hash256 {
+pub(crate) fn weak(last: u8) -> Hash256 {
     let mut bytes = [0; 32];
     bytes[31] = last;
     Hash256(bytes)
 }
 
-pub fn hashes_of(alloc: Global, lasts: &[u8]) -> Result<Vec<Hash256>, AllocError> {
+pub(crate) fn hashes_of(alloc: Global, lasts: &[u8]) -> Result<Vec<Hash256>, AllocError> {
     let mut hashes = Vec::new(alloc);
     for last in lasts {
         hashes.push(weak(*last))?;
@@ -124,12 +124,12 @@ pub fn hashes_of(alloc: Global, lasts: &[u8]) -> Result<Vec<Hash256>, AllocError
 // What a cell shows: one of mask 0 its hash and its depth, a pruned branch of mask 1 the hash that it states, for a
 // depth of 0, and its own.
 #[derive(Clone, Copy)]
-pub enum Shown {
+pub(crate) enum Shown {
     Whole(u8, u16),
     Hidden(u8, u8),
 }
 
-pub fn info_of(shown: Shown) -> ChildInfo {
+pub(crate) fn info_of(shown: Shown) -> ChildInfo {
     match shown {
         Shown::Whole(hash, depth) => ChildInfo {
             mask: Mask::NONE,
@@ -144,7 +144,7 @@ pub fn info_of(shown: Shown) -> ChildInfo {
     }
 }
 
-pub fn infos_of(alloc: Global, all: &[Shown]) -> Result<Vec<ChildInfo>, AllocError> {
+pub(crate) fn infos_of(alloc: Global, all: &[Shown]) -> Result<Vec<ChildInfo>, AllocError> {
     let mut infos = Vec::new(alloc);
     for shown in all {
         infos.push(info_of(*shown))?;
@@ -154,12 +154,17 @@ pub fn infos_of(alloc: Global, all: &[Shown]) -> Result<Vec<ChildInfo>, AllocErr
 
 // A face: whether it is exotic, its bytes and how many bits of them, and what its children show.
 #[derive(Clone, Copy)]
-pub struct Shape(pub bool, pub Stem, pub u16, pub &'static [Shown]);
+pub(crate) struct Shape(
+    pub(crate) bool,
+    pub(crate) Stem,
+    pub(crate) u16,
+    pub(crate) &'static [Shown],
+);
 
 /// The face of the byte 01.
-pub const BYTE: Shape = Shape(false, Stem::Bytes(&[1]), 8, &[]);
+pub(crate) const BYTE: Shape = Shape(false, Stem::Bytes(&[1]), 8, &[]);
 
-pub fn face_of(alloc: Global, shape: &Shape) -> Result<Face, Fail> {
+pub(crate) fn face_of(alloc: Global, shape: &Shape) -> Result<Face, Fail> {
     let bits = Bits::from_slice(&bytes_of(alloc, &shape.1)?, shape.2).ok_or("bits")?;
     let kids = infos_of(alloc, shape.3)?;
     if kids.len() > 4 {
@@ -168,7 +173,7 @@ pub fn face_of(alloc: Global, shape: &Shape) -> Result<Face, Fail> {
     Ok(Face::new(shape.0, bits, &kids))
 }
 
-pub fn faces_of(alloc: Global, shapes: &[Shape]) -> Result<Vec<Face>, Fail> {
+pub(crate) fn faces_of(alloc: Global, shapes: &[Shape]) -> Result<Vec<Face>, Fail> {
     let mut faces = Vec::new(alloc);
     for shape in shapes {
         faces.push(face_of(alloc, shape)?)?;
@@ -176,7 +181,7 @@ pub fn faces_of(alloc: Global, shapes: &[Shape]) -> Result<Vec<Face>, Fail> {
     Ok(faces)
 }
 
-pub fn found_of(alloc: Global, shapes: &[Option<Shape>]) -> Result<Vec<Option<Face>>, Fail> {
+pub(crate) fn found_of(alloc: Global, shapes: &[Option<Shape>]) -> Result<Vec<Option<Face>>, Fail> {
     let mut found = Vec::new(alloc);
     for shape in shapes {
         match shape {
@@ -187,7 +192,7 @@ pub fn found_of(alloc: Global, shapes: &[Option<Shape>]) -> Result<Vec<Option<Fa
     Ok(found)
 }
 
-pub fn hashes_in(alloc: Global, cells: &[NewCell]) -> Result<Vec<Hash256>, AllocError> {
+pub(crate) fn hashes_in(alloc: Global, cells: &[NewCell]) -> Result<Vec<Hash256>, AllocError> {
     let mut hashes = Vec::new(alloc);
     for cell in cells {
         hashes.push(cell.hash)?;
@@ -198,7 +203,7 @@ pub fn hashes_in(alloc: Global, cells: &[NewCell]) -> Result<Vec<Hash256>, Alloc
 // ---- faults
 
 #[derive(Clone, Copy)]
-pub enum Due {
+pub(crate) enum Due {
     OldHash(u8, u8),
     OldDepth(u16, u16),
     OldHalf(u8, Shape, Shape),
@@ -207,7 +212,7 @@ pub enum Due {
     SplitDeep(u32),
 }
 
-pub fn fault_of(alloc: Global, due: &Due) -> Result<PrepareFault, Fail> {
+pub(crate) fn fault_of(alloc: Global, due: &Due) -> Result<PrepareFault, Fail> {
     Ok(match due {
         Due::OldHash(stated, real) => PrepareFault::OldHash {
             stated: weak(*stated),
