@@ -6,14 +6,14 @@ ghost use Rattle.cd_keeper_sql.specs.Counting.{count_after};
 
 use crate::database::{Database, KeyAndValue};
 use crate::keys::{desc_key_above, hash_above};
-use crate::statements::{Statements, fault_of};
+use crate::statements::Statements;
 use cd_base::Hash256;
 use cd_keeper::{Batch, KeepFault, Keeper};
 use sqlite::Connection;
-use sqlite_std_file::File;
-use sqlite_store::FileStore;
+use sqlite_trees::store::Alter;
 
-/// A keeper over a database, which tells nothing of its contents. Over a file it can be moved to another thread.
+/// A keeper over a database, which tells nothing of its contents. It can be moved to another thread where its database
+/// can.
 #[derive(Drop)]
 pub struct SqlKeeperOver<C: Database> {
     database: C,
@@ -23,19 +23,15 @@ pub struct SqlKeeperOver<C: Database> {
     reads: u64,
 }
 
-/// A keeper over a database file.
-pub type SqlKeeper = SqlKeeperOver<Connection<FileStore<File>>>;
-
-impl SqlKeeper {
-    /// Opens the file at a path, or makes it, and makes both tables where they aren't there. `Failed` where the
-    /// database refuses: a file that is no database, say, or a table of other columns.
-    pub fn open(rt: &HostRuntime, path: &str) -> Result<SqlKeeper, KeepFault> {
-        let mut database = match Connection::open(rt, path) {
-            Ok(database) => database,
-            Err(error) => return Err(fault_of(error)),
-        };
-        let statements = Statements::prepare(&mut database)?;
-        Ok(SqlKeeperOver::new(database, statements))
+impl<S: Alter + Drop> SqlKeeperOver<Connection<S>> {
+    /// A keeper over an open database. Both tables are made where they aren't there. `Failed` where the database
+    /// refuses that: a table of these names with other columns, say.
+    pub fn over(database: Connection<S>) -> Result<SqlKeeperOver<Connection<S>>, KeepFault> {
+        let mut database = database;
+        match Statements::prepare(&mut database) {
+            Ok(statements) => Ok(SqlKeeperOver::new(database, statements)),
+            Err(fault) => Err(fault),
+        }
     }
 }
 

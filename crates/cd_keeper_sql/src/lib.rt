@@ -1,4 +1,4 @@
-//! A keeper over a database file, which sqlite3 reads too.
+//! A keeper over a database, whose file sqlite3 reads too.
 #![tactic(auto)]
 
 mod database;
@@ -7,5 +7,5 @@ mod keys;
 mod statements;
 
 pub use database::Database;
-pub use keeper::{SqlKeeper, SqlKeeperOver};
+pub use keeper::SqlKeeperOver;
 pub use statements::Statements;
