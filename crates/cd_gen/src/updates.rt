@@ -9,25 +9,35 @@ use cd_cell::{ChildInfo, Face, Mask};
 const WRITTEN: usize = 32;
 const GROUP: usize = 16;
 
-/// Lists the pruned branch of a cell of level 0: its hash and its depth.
-fn list_pruned(cells: &mut Vec<Cell>, info: &ChildInfo) -> Result<ChildInfo, Memory> {
+/// The contents of a pruned branch of mask 1: the hash and the depth of the cell in whose place it stands.
+fn pruned_text(info: &ChildInfo) -> [u8; 36] {
     let mut bytes = [0; 36];
     bytes[0] = 1;
     bytes[1] = 1;
     bytes[2..34].copy_from_slice(&info.hashes[0].0);
     bytes[34..].copy_from_slice(&info.depths[0].to_be_bytes());
-    list(cells, Face::new(true, bits_of(&bytes), &[]))
+    bytes
 }
 
-/// The Merkle update of these two halves.
-pub fn list_update(cells: &mut Vec<Cell>, old: &ChildInfo, new: &ChildInfo) -> Result<(), Memory> {
+/// Lists the pruned branch of a cell of level 0.
+fn list_pruned(cells: &mut Vec<Cell>, info: &ChildInfo) -> Result<ChildInfo, Memory> {
+    list(cells, Face::new(true, bits_of(&pruned_text(info)), &[]))
+}
+
+/// The contents of a Merkle update: the hashes of both halves, then their depths.
+fn update_text(old: &ChildInfo, new: &ChildInfo) -> [u8; 69] {
     let mut bytes = [0; 69];
     bytes[0] = 4;
     bytes[1..33].copy_from_slice(&old.hashes[0].0);
     bytes[33..65].copy_from_slice(&new.hashes[0].0);
     bytes[65..67].copy_from_slice(&old.depths[0].to_be_bytes());
     bytes[67..].copy_from_slice(&new.depths[0].to_be_bytes());
-    list(cells, Face::new(true, bits_of(&bytes), &[*old, *new]))?;
+    bytes
+}
+
+/// Lists the Merkle update of these two halves.
+pub fn list_update(cells: &mut Vec<Cell>, old: &ChildInfo, new: &ChildInfo) -> Result<(), Memory> {
+    list(cells, Face::new(true, bits_of(&update_text(old, new)), &[*old, *new]))?;
     Ok(())
 }
 
