@@ -1,0 +1,2 @@
+pub mod CellGraph
+pub mod Changes

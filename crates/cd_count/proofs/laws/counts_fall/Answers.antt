@@ -1,0 +1,5 @@
+use Rattle.cd_count.proofs.Changes as changes
+use Rattle.cd_count.proofs.laws.counts_fall.Goals as goal
+
+pub returns : goal.returns
+returns c = λ H. changes.counts_fall H

@@ -1,0 +1,10 @@
+pub mod Batches
+pub mod Counts
+pub mod Held
+pub mod Listed
+pub mod Lists
+pub mod Maps
+pub mod Plans
+pub mod Records
+pub mod Together
+pub mod Worklists
