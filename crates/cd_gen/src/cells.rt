@@ -1,6 +1,8 @@
-ghost use Rattle.std.specs.Prelude.{◌≡◌, ◌≤◌, length, All, IfOk};
+ghost use Rattle.std.specs.Prelude.{◌≡◌, ◌≤◌, length, All, IfOk, OnOk};
 ghost use Rattle.cd_cell.specs.GoodFace.{IsGoodFace};
+ghost use Rattle.cd_cell.specs.Tree.{Tree, face_of, info_of};
 ghost use Rattle.cd_feed.specs.Feeds.{IsBagFit};
+ghost use Rattle.cd_gen.specs.States.{sha};
 
 use cd_base::{Hash256, Memory};
 use cd_boc_write::write_bag;
@@ -34,7 +36,9 @@ struct Key {
 }
 
 /// Lists a cell, and answers what it shows.
-pub fn list(cells: &mut Vec<Cell>, face: Face) -> Result<ChildInfo, Memory> {
+pub fn list(cells: &mut Vec<Cell>, face: Face) -> Result<ChildInfo, Memory>
+    ensures { (t : Tree) → face_of sha t ≡ face → IfOk result (λ info. info ≡ info_of sha t) }
+{
     // No face of the generator fails the check.
     if face.check().is_err() {
         return Err(Memory);
@@ -74,11 +78,20 @@ fn in_order(alloc: Global, cells: &[Cell]) -> Result<Vec<NewCell>, AllocError>
     let keys = keys_of(alloc, cells)?;
     let mut listed = Vec::with_capacity(alloc, cells.len())?;
     for key in &keys {
-        if let Some(found) = cells.get(key.number as usize) {
-            listed.push(found.cell)?;
-        }
+        add(&mut listed, cells, key.number)?;
     }
     Ok(listed)
+}
+
+fn add(listed: &mut Vec<NewCell>, cells: &[Cell], number: u32) -> Result<(), AllocError>
+    requires { All (λ c. IsGoodFace c.face) listed.old.items }
+    ensures { OnOk result (All (λ c. IsGoodFace c.face) listed.new.items) }
+{
+    let Some(found) = cells.get(number as usize) else {
+        return Ok(());
+    };
+    listed.push(found.cell)?;
+    Ok(())
 }
 
 // The keys of the cells, sorted, one for each hash.

@@ -1,5 +1,11 @@
-use crate::cells::{bag_of, list};
-use crate::states::{LEAVES, NODES, leaf, list_inner};
+ghost use Rattle.std.specs.Prelude.{◌≡◌, IfOk};
+ghost use Rattle.std.specs.Vec.{vec_len};
+ghost use Rattle.cd_feed.specs.Feeds.{IsBagFit};
+ghost use Rattle.cd_gen.specs.States.{zero_root};
+ghost use Rattle.cd_gen.specs.declared.states.TheConstants.{NODES};
+
+use crate::cells::bag_of;
+use crate::states::{NODES, Owner, list_full};
 use crate::updates::{list_all_hidden, list_shown, list_update, take_over};
 use cd_base::{Hash256, Memory};
 use cd_cell::ChildInfo;
@@ -9,43 +15,56 @@ use std::alloc::Global;
 /// A chain of blocks, by its newest state.
 #[derive(Drop)]
 pub struct Chain {
-    number: u64,
-    chain: u8,
+    owner: Owner,
     /// What the nodes of the state show.
     state: Vec<ChildInfo>,
     /// What the nodes of an update's half show.
     shown: Vec<ChildInfo>,
+    ghost state_nodes: { vec_len state ≡ NODES },
+    ghost shown_nodes: { vec_len shown ≡ NODES },
+}
+
+/// The root hash of a zero state, and its bag.
+#[derive(Drop)]
+pub struct ZeroState {
+    pub root: Hash256,
+    pub bag: Bytes,
 }
 
 impl Chain {
-    /// The zero state of a chain, with its bag.
-    pub fn start(alloc: Global, number: u64, chain: u8) -> Result<(Chain, Bytes), Memory>
+    /// A chain behind its zero state, which is answered too.
+    #[tactic(auto, unfolding(crate::specs::States::zero_root))]
+    pub fn start(alloc: Global, owner: Owner) -> Result<(Chain, ZeroState), Memory>
+        ensures root { IfOk result (λ x. x.1.root ≡ zero_root owner.number owner.chain) }
+        ensures bag { IfOk result (λ x. IsBagFit x.1.bag) }
     {
         let mut state = vec![in alloc; ChildInfo::NONE; NODES]?;
         let shown = vec![in alloc; ChildInfo::NONE; NODES]?;
         let mut cells = Vec::with_capacity(alloc, NODES)?;
-        for j in 0..LEAVES {
-            state[LEAVES + j] = list(&mut cells, leaf(number, chain, j as u16, 0))?;
-        }
-        list_inner(&mut cells, &mut state, LEAVES)?;
+        let info = list_full(&mut cells, &mut state, owner, 9, 0)?;
+        let root = info.rep();
         let bag = bag_of(alloc, &cells)?;
-        Ok((Chain { number, chain, state, shown }, bag))
-    }
-
-    /// The hash of the newest state's root.
-    pub fn root(&self) -> Hash256 {
-        self.state[1].rep()
+        Ok((
+            Chain {
+                owner,
+                state,
+                shown,
+            },
+            ZeroState { root, bag },
+        ))
     }
 
     /// Goes on by the block of this seqno, and answers the bag of its update.
     pub fn go_on(&mut self, alloc: Global, seqno: u32) -> Result<Bytes, Memory>
+        ensures { IfOk result (λ bag. IsBagFit bag) }
     {
-        let rest = ((u64::from(seqno) + self.number % 16) % 16) as usize;
+        let owner = self.owner;
+        let rest = ((u64::from(seqno) + owner.number % 16) % 16) as usize;
         let mut cells = Vec::with_capacity(alloc, NODES)?;
         list_all_hidden(&mut cells, &self.state, &mut self.shown, rest)?;
-        list_shown(&mut cells, &mut self.shown, self.number, self.chain, rest, seqno.saturating_sub(16))?;
+        list_shown(&mut cells, &mut self.shown, owner, rest, seqno.saturating_sub(16))?;
         let old = self.shown[1];
-        list_shown(&mut cells, &mut self.shown, self.number, self.chain, rest, seqno)?;
+        list_shown(&mut cells, &mut self.shown, owner, rest, seqno)?;
         let new = self.shown[1];
         list_update(&mut cells, &old, &new)?;
         take_over(&mut self.state, &self.shown, rest);

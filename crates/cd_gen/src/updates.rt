@@ -1,7 +1,7 @@
 ghost use Rattle.std.specs.Prelude.{◌≡◌, ◌+◌, ◌*◌, ◌/◌, ◌≤◌, ◌<◌, length};
 
 use crate::cells::{Cell, list};
-use crate::states::{LEAVES, NODES, bits_of, leaf, list_inner, list_node};
+use crate::states::{LEAVES, NODES, Owner, bits_of, leaf, list_inner, list_node};
 use cd_base::Memory;
 use cd_cell::{ChildInfo, Face, Mask};
 
@@ -24,14 +24,20 @@ fn list_pruned(cells: &mut Vec<Cell>, info: &ChildInfo) -> Result<ChildInfo, Mem
     list(cells, Face::new(true, bits_of(&pruned_text(info)), &[]))
 }
 
+fn put(bytes: &mut [u8], at: usize, part: &[u8])
+    requires { at + length part.now ≤ length bytes.old }
+{
+    bytes[at..at + part.len()].copy_from_slice(part);
+}
+
 /// The contents of a Merkle update: the hashes of both halves, then their depths.
 fn update_text(old: &ChildInfo, new: &ChildInfo) -> [u8; 69] {
     let mut bytes = [0; 69];
     bytes[0] = 4;
-    bytes[1..33].copy_from_slice(&old.hashes[0].0);
-    bytes[33..65].copy_from_slice(&new.hashes[0].0);
-    bytes[65..67].copy_from_slice(&old.depths[0].to_be_bytes());
-    bytes[67..].copy_from_slice(&new.depths[0].to_be_bytes());
+    put(&mut bytes, 1, &old.hashes[0].0);
+    put(&mut bytes, 33, &new.hashes[0].0);
+    put(&mut bytes, 65, &old.depths[0].to_be_bytes());
+    put(&mut bytes, 67, &new.depths[0].to_be_bytes());
     bytes
 }
 
@@ -109,23 +115,23 @@ fn list_above(cells: &mut Vec<Cell>, shown: &mut [ChildInfo], rest: usize, leave
 }
 
 /// Lists the leaves that are written, as the block of this seqno wrote them.
-fn list_leaves(cells: &mut Vec<Cell>, shown: &mut [ChildInfo], number: u64, chain: u8, rest: usize, seqno: u32) -> Result<(), Memory>
+fn list_leaves(cells: &mut Vec<Cell>, shown: &mut [ChildInfo], owner: Owner, rest: usize, seqno: u32) -> Result<(), Memory>
     requires shown { length shown.old ≡ NODES }
     requires rest { rest < GROUP }
 {
     for group in 0..WRITTEN {
         let j = written_leaf(group, rest);
-        shown[LEAVES + j] = list(cells, leaf(number, chain, j as u16, seqno))?;
+        shown[LEAVES + j] = list(cells, leaf(owner, j as u16, seqno))?;
     }
     Ok(())
 }
 
 /// Lists the cells on the paths to the leaves that are written, the leaves as the block of this seqno wrote them.
-pub fn list_shown(cells: &mut Vec<Cell>, shown: &mut [ChildInfo], number: u64, chain: u8, rest: usize, seqno: u32) -> Result<(), Memory>
+pub fn list_shown(cells: &mut Vec<Cell>, shown: &mut [ChildInfo], owner: Owner, rest: usize, seqno: u32) -> Result<(), Memory>
     requires shown { length shown.old ≡ NODES }
     requires rest { rest < GROUP }
 {
-    list_leaves(cells, shown, number, chain, rest, seqno)?;
+    list_leaves(cells, shown, owner, rest, seqno)?;
     list_above(cells, shown, rest, 2)?;
     list_above(cells, shown, rest, 4)?;
     list_above(cells, shown, rest, 8)?;
