@@ -62,7 +62,13 @@ impl Chain {
         let rest = ((u64::from(seqno) + owner.number % 16) % 16) as usize;
         let mut cells = Vec::with_capacity(alloc, NODES)?;
         list_all_hidden(&mut cells, &self.state, &mut self.shown, rest)?;
-        list_shown(&mut cells, &mut self.shown, owner, rest, seqno.saturating_sub(16))?;
+        list_shown(
+            &mut cells,
+            &mut self.shown,
+            owner,
+            rest,
+            seqno.saturating_sub(16),
+        )?;
         let old = self.shown[1];
         list_shown(&mut cells, &mut self.shown, owner, rest, seqno)?;
         let new = self.shown[1];

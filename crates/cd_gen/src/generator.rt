@@ -45,9 +45,27 @@ pub fn make_feed(alloc: Global, n: u64) -> Result<Feed, Memory>
     ensures frame { IfOk result (λ feed. feed_frame feed ≡ frame_of n) }
     ensures fit { IfOk result (λ feed. IsFeedFit feed) }
 {
-    let (master, zero) = Chain::start(alloc, Owner { number: n, chain: 0 })?;
-    let (left, left_zero) = Chain::start(alloc, Owner { number: n, chain: 1 })?;
-    let (right, right_zero) = Chain::start(alloc, Owner { number: n, chain: 2 })?;
+    let (master, zero) = Chain::start(
+        alloc,
+        Owner {
+            number: n,
+            chain: 0,
+        },
+    )?;
+    let (left, left_zero) = Chain::start(
+        alloc,
+        Owner {
+            number: n,
+            chain: 1,
+        },
+    )?;
+    let (right, right_zero) = Chain::start(
+        alloc,
+        Owner {
+            number: n,
+            chain: 2,
+        },
+    )?;
     let names = Names {
         number: n,
         master: zero.root,

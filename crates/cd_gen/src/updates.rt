@@ -7,6 +7,7 @@ use cd_cell::{ChildInfo, Face, Mask};
 
 /// The number of leaves that a block writes, each one of 16.
 const WRITTEN: usize = 32;
+
 const GROUP: usize = 16;
 
 /// The contents of a pruned branch of mask 1: the hash and the depth of the cell in whose place it stands.
@@ -43,7 +44,10 @@ fn update_text(old: &ChildInfo, new: &ChildInfo) -> [u8; 69] {
 
 /// Lists the Merkle update of these two halves.
 pub fn list_update(cells: &mut Vec<Cell>, old: &ChildInfo, new: &ChildInfo) -> Result<(), Memory> {
-    list(cells, Face::new(true, bits_of(&update_text(old, new)), &[*old, *new]))?;
+    list(
+        cells,
+        Face::new(true, bits_of(&update_text(old, new)), &[*old, *new]),
+    )?;
     Ok(())
 }
 
@@ -77,7 +81,13 @@ fn sibling(node: usize) -> usize
 }
 
 /// Lists the pruned branches beside the nodes on the paths that stand over so many leaves.
-fn list_hidden(cells: &mut Vec<Cell>, state: &[ChildInfo], shown: &mut [ChildInfo], rest: usize, leaves: usize) -> Result<(), Memory>
+fn list_hidden(
+    cells: &mut Vec<Cell>,
+    state: &[ChildInfo],
+    shown: &mut [ChildInfo],
+    rest: usize,
+    leaves: usize,
+) -> Result<(), Memory>
     requires state { length state.now ≡ NODES }
     requires shown { length shown.old ≡ NODES }
     requires rest { rest < GROUP }
@@ -91,7 +101,12 @@ fn list_hidden(cells: &mut Vec<Cell>, state: &[ChildInfo], shown: &mut [ChildInf
 }
 
 /// Lists all pruned branches of an update.
-pub fn list_all_hidden(cells: &mut Vec<Cell>, state: &[ChildInfo], shown: &mut [ChildInfo], rest: usize) -> Result<(), Memory>
+pub fn list_all_hidden(
+    cells: &mut Vec<Cell>,
+    state: &[ChildInfo],
+    shown: &mut [ChildInfo],
+    rest: usize,
+) -> Result<(), Memory>
     requires state { length state.now ≡ NODES }
     requires shown { length shown.old ≡ NODES }
     requires rest { rest < GROUP }
@@ -103,7 +118,12 @@ pub fn list_all_hidden(cells: &mut Vec<Cell>, state: &[ChildInfo], shown: &mut [
 }
 
 /// Lists the cells on the paths that stand over so many leaves.
-fn list_above(cells: &mut Vec<Cell>, shown: &mut [ChildInfo], rest: usize, leaves: usize) -> Result<(), Memory>
+fn list_above(
+    cells: &mut Vec<Cell>,
+    shown: &mut [ChildInfo],
+    rest: usize,
+    leaves: usize,
+) -> Result<(), Memory>
     requires shown { length shown.old ≡ NODES }
     requires rest { rest < GROUP }
     requires some { 2 ≤ leaves }
@@ -115,7 +135,13 @@ fn list_above(cells: &mut Vec<Cell>, shown: &mut [ChildInfo], rest: usize, leave
 }
 
 /// Lists the leaves that are written, as the block of this seqno wrote them.
-fn list_leaves(cells: &mut Vec<Cell>, shown: &mut [ChildInfo], owner: Owner, rest: usize, seqno: u32) -> Result<(), Memory>
+fn list_leaves(
+    cells: &mut Vec<Cell>,
+    shown: &mut [ChildInfo],
+    owner: Owner,
+    rest: usize,
+    seqno: u32,
+) -> Result<(), Memory>
     requires shown { length shown.old ≡ NODES }
     requires rest { rest < GROUP }
 {
@@ -127,7 +153,13 @@ fn list_leaves(cells: &mut Vec<Cell>, shown: &mut [ChildInfo], owner: Owner, res
 }
 
 /// Lists the cells on the paths to the leaves that are written, the leaves as the block of this seqno wrote them.
-pub fn list_shown(cells: &mut Vec<Cell>, shown: &mut [ChildInfo], owner: Owner, rest: usize, seqno: u32) -> Result<(), Memory>
+pub fn list_shown(
+    cells: &mut Vec<Cell>,
+    shown: &mut [ChildInfo],
+    owner: Owner,
+    rest: usize,
+    seqno: u32,
+) -> Result<(), Memory>
     requires shown { length shown.old ≡ NODES }
     requires rest { rest < GROUP }
 {
