@@ -2,6 +2,7 @@
 use Rattle.std.proofs.Common.{◌≡◌, ℕ, ◌+◌, ◌-◌, ◌*◌, ◌/◌, ◌%◌, ◌^◌, ◌≤◌, ◌<◌, ◌==◌, nat_lt, Bool, true, false, List, [], ◌∷◌, ◌++◌, length, map, refl, sym, ap, ap₂, ◌∙◌, arith}
 use Rattle.std.specs.Prelude.{if◌then◌else◌}
 use Rattle.std.specs.List.{range_with_len, sum_by, count_by, AllByRecursion}
+use Rattle.std.proofs.lemmas.Bool.{ltb-false}
 use Rattle.std.proofs.lemmas.List.{map_push, length-map}
 use Rattle.std.proofs.lemmas.List.FromFn.{map-range_with_len_more, length-range_with_len}
 use Rattle.std.proofs.lemmas.List.Sums.{sum_by-append}
@@ -11,7 +12,7 @@ use Rattle.cd_feed.specs.declared.feed.Task.{Task}
 use Rattle.cd_feed.specs.declared.feed.Task.TheVariants.{Zero, Block, Expire, Read, Slice}
 use Rattle.cd_feed.specs.declared.feed.Phase.{Phase}
 use Rattle.cd_feed.specs.Feeds.{IsTopsFit, IsBagFit, IsPathFit, IsMaxFit, IsTaskFit, IsWorkerFit, IsPhaseFit, IsFeedFit, is_serve, worker_serves, phase_serves, feed_serves}
-use Rattle.cd_gen.specs.Generated.{block_id, shard_blocks, block_task, zero_phase, path_of, master_tasks, reading_tasks, expiring_tasks, block_phase, task_frame, phase_frame, feed_frame, frame_of}
+use Rattle.cd_gen.specs.Generated.{block_id, shard_blocks, block_task, zero_phase, path_of, master_tasks, reading_tasks, expiring_tasks, block_phase, task_frame, phase_frame, feed_frame, frame_of, IsExport, HasExport, HasExports}
 
 -- ---- without bags
 
@@ -99,6 +100,45 @@ phase_fits number seqno master left right m l r = record {
   );
 }
 
+-- ---- bags are export texts
+
+abbrev pub AreExports : Phase → Type 0
+AreExports p = AllByRecursion (AllByRecursion HasExport) p.workers
+
+zero_exports : (number : ℕ) (master left right : List ℕ) → IsExport master → IsExport left → IsExport right → AreExports (zero_phase number master left right)
+unfolding zero_phase HasExport
+zero_exports number master left right m l r = ((m, (l, (r, tt))), tt)
+
+master_exports : (number seqno : ℕ) (bag : List ℕ) (last : Bool) → (last ≡ false → IsExport bag)
+    → AllByRecursion HasExport (if last then [] else block_task number 0 seqno (shard_blocks number seqno) bag ∷ [])
+unfolding HasExport
+master_exports number seqno bag true known = tt
+master_exports number seqno bag false known = (known refl, tt)
+
+reading_exports : (number seqno : ℕ) (test : Bool)
+    → AllByRecursion HasExport (Read (block_id number 1 (seqno - 1)) (path_of ((7 * seqno) % 512)) ∷ (if test then Slice (block_id number 2 (seqno - 1)) 4096 ∷ [] else []))
+unfolding HasExport
+reading_exports number seqno true = (tt, (tt, tt))
+reading_exports number seqno false = (tt, tt)
+
+expiring_exports : (number seqno : ℕ) (test : Bool) → AllByRecursion HasExport (if test then Expire (block_id number 0 (seqno - 1)) ∷ [] else [])
+unfolding HasExport
+expiring_exports number seqno true = (tt, tt)
+expiring_exports number seqno false = tt
+
+phase_exports : (number seqno : ℕ) (master left right : List ℕ) → (seqno ≤ 66 → IsExport master) → IsExport left → IsExport right → AreExports (block_phase number seqno master left right)
+unfolding block_phase master_tasks reading_tasks expiring_tasks HasExport
+phase_exports number seqno master left right m l r = (
+  (l, tt),
+  (
+    (r, tt),
+    (
+      master_exports number seqno master (nat_lt 66 seqno) (λ e. m (ltb-false 66 seqno e)),
+      (reading_exports number seqno (seqno % 16 == 0), (expiring_exports number seqno (seqno % 8 == 0), tt)),
+    ),
+  ),
+)
+
 -- ---- no task is a Serve
 
 pub zero_serves : (number : ℕ) (master left right : List ℕ) → phase_serves (zero_phase number master left right) ≡ 0
@@ -136,27 +176,30 @@ bare_phase number seqno = block_phase number seqno [] [] []
 pub record AreSoFar (number : ℕ) (phases : List Phase) (count : ℕ) : Type 0 where
   pub framed : map phase_frame phases ≡ zero_phase number [] [] [] ∷ map (bare_phase number) (range_with_len 1 count)
   pub fit : AllByRecursion IsPhaseFit phases
+  pub exports : AllByRecursion AreExports phases
   pub unserved : sum_by phase_serves phases ≡ 0
 
 fits_push : {X : Type 0} (P : X → Type 0) (xs : List X) (x : X) → AllByRecursion P xs → P x → AllByRecursion P (xs ++ x ∷ [])
 fits_push P [] x all one = (one, tt)
 fits_push P (y ∷ xs) x all one = (all.0, fits_push P xs x all.1 one)
 
-pub first_phase : (number : ℕ) (master left right : List ℕ) → IsBagFit master → IsBagFit left → IsBagFit right → AreSoFar number (zero_phase number master left right ∷ []) 0
-first_phase number master left right m l r = record {
+pub first_phase : (number : ℕ) (master left right : List ℕ) → IsBagFit master → IsBagFit left → IsBagFit right → IsExport master → IsExport left → IsExport right → AreSoFar number (zero_phase number master left right ∷ []) 0
+first_phase number master left right m l r em el er = record {
   framed = ap (λ p. p ∷ []) (zero_framed number master left right);
   fit = (zero_fits number master left right m l r, tt);
+  exports = (zero_exports number master left right em el er, tt);
   unserved = rw (zero_serves number master left right) refl;
 }
 
-pub next_phase : (number : ℕ) (phases : List Phase) (count seqno : ℕ) (master left right : List ℕ) → 1 + count ≡ seqno → IsBagFit master → IsBagFit left → IsBagFit right
+pub next_phase : (number : ℕ) (phases : List Phase) (count seqno : ℕ) (master left right : List ℕ) → 1 + count ≡ seqno → IsBagFit master → IsBagFit left → IsBagFit right → (seqno ≤ 66 → IsExport master) → IsExport left → IsExport right
     → AreSoFar number phases count → AreSoFar number (phases ++ block_phase number seqno master left right ∷ []) (count + 1)
-next_phase number phases count seqno master left right next m l r before = record {
+next_phase number phases count seqno master left right next m l r em el er before = record {
   framed =
       map_push phase_frame phases (block_phase number seqno master left right)
       ∙ ap₂ (λ ps p. ps ++ p ∷ []) before.framed (block_framed number seqno master left right)
       ∙ ap (λ ps. zero_phase number [] [] [] ∷ ps) (sym (map-range_with_len_more (bare_phase number) 1 count seqno next));
   fit = fits_push IsPhaseFit phases (block_phase number seqno master left right) before.fit (phase_fits number seqno master left right m l r);
+  exports = fits_push AreExports phases (block_phase number seqno master left right) before.exports (phase_exports number seqno master left right em el er);
   unserved =
       sum_by-append phase_serves phases (block_phase number seqno master left right ∷ [])
       ∙ rw (before.unserved, block_serves number seqno master left right) refl;
@@ -171,3 +214,7 @@ unfolding feed_serves
 all_fit number phases all =
     let len = sym (length-map phases phase_frame) ∙ ap length all.framed ∙ ap (λ n. 1 + n) (length-map (range_with_len 1 67) (bare_phase number) ∙ length-range_with_len 1 67) in
     record { few = omega (arith, len); phases = all.fit; serves = omega (arith, all.unserved) }
+
+pub all_exports : (number : ℕ) (phases : List Phase) → AreSoFar number phases 67 → HasExports (record { phases = phases })
+unfolding HasExports
+all_exports number phases all = all.exports

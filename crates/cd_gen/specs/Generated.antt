@@ -1,8 +1,11 @@
 -- Trusted: the feed of a number, but for its bags.
-use Rattle.std.specs.Prelude.{ℕ, ◌+◌, ◌-◌, ◌*◌, ◌/◌, ◌%◌, ◌^◌, ◌==◌, nat_lt, pos, negsuc, List, [], ◌∷◌, ◌++◌, map, replicate, if◌then◌else◌}
-use Rattle.std.specs.List.{range_with_len}
+use Rattle.std.specs.Prelude.{ℕ, ◌+◌, ◌-◌, ◌*◌, ◌/◌, ◌%◌, ◌^◌, ◌==◌, nat_lt, pos, negsuc, List, [], ◌∷◌, ◌++◌, ◌≡◌, All, map, replicate, if◌then◌else◌}
+use Rattle.std.specs.List.{range_with_len, AllByRecursion}
 use Rattle.std.specs.Int.{w32, w64, to_be_bytes}
 use Rattle.cd_base.specs.declared.hash.Hash256.{Hash256}
+use Rattle.cd_cell.specs.declared.new_cell.NewCell.{NewCell}
+use Rattle.cd_cell.specs.GoodFace.{IsGoodFace}
+use Rattle.cd_boc_write.specs.Exports.{export_text}
 use Rattle.cd_block.specs.declared.shard.ShardId.{ShardId}
 use Rattle.cd_block.specs.declared.block.BlockId.{BlockId}
 use Rattle.cd_feed.specs.declared.feed.Task.{Task}
@@ -86,3 +89,21 @@ feed_frame f = record { phases = map phase_frame f.phases }
 -- the zero states, and the blocks of the seqnos 1 to 67, with no bags
 unfoldable pub frame_of : ℕ → Feed
 frame_of number = record { phases = zero_phase number [] [] [] ∷ map (λ seqno. block_phase number seqno [] [] []) (range_with_len 1 67) }
+
+-- a bag is an export text: that of some cells, each within the limits of a cell
+pub record IsExport (bag : List ℕ) : Type 0 where
+  pub cells : List NewCell
+  pub good : All (λ c. IsGoodFace c.face) cells
+  pub text : bag ≡ export_text cells
+
+unfoldable pub HasExport : Task → Type 0
+HasExport (Zero id tops bag) = IsExport bag
+HasExport (Block id parent tops bag) = IsExport bag
+HasExport (Expire id) = Unit {0}
+HasExport (Read id path) = Unit {0}
+HasExport (Slice id max) = Unit {0}
+HasExport (Serve id max) = Unit {0}
+HasExport (Merged id left right tops bag) = IsExport bag
+
+unfoldable pub HasExports : Feed → Type 0
+HasExports f = AllByRecursion (λ p. AllByRecursion (AllByRecursion HasExport) p.workers) f.phases

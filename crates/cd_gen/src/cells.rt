@@ -3,6 +3,7 @@ ghost use Rattle.cd_cell.specs.GoodFace.{IsGoodFace};
 ghost use Rattle.cd_cell.specs.Tree.{Tree, face_of, info_of};
 ghost use Rattle.cd_feed.specs.Feeds.{IsBagFit};
 ghost use Rattle.cd_gen.specs.States.{sha};
+ghost use Rattle.cd_gen.specs.Generated.{IsExport};
 
 use cd_base::{Hash256, Memory};
 use cd_boc_write::write_bag;
@@ -56,7 +57,8 @@ pub fn list(cells: &mut Vec<Cell>, face: Face) -> Result<ChildInfo, Memory>
 
 /// The bag of the tree of these cells, each under its hash once, in the order of an export.
 pub fn bag_of(alloc: Global, cells: &[Cell]) -> Result<Bytes, Memory>
-    ensures { IfOk result (λ bag. IsBagFit bag) }
+    ensures short { IfOk result (λ bag. IsBagFit bag) }
+    ensures export { IfOk result (λ bag. IsExport bag) }
 {
     let listed = in_order(alloc, cells)?;
     // Neither is ever so.

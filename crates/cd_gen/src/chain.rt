@@ -2,6 +2,7 @@ ghost use Rattle.std.specs.Prelude.{◌≡◌, IfOk};
 ghost use Rattle.std.specs.Vec.{vec_len};
 ghost use Rattle.cd_feed.specs.Feeds.{IsBagFit};
 ghost use Rattle.cd_gen.specs.States.{zero_root};
+ghost use Rattle.cd_gen.specs.Generated.{IsExport};
 ghost use Rattle.cd_gen.specs.declared.states.TheConstants.{NODES};
 
 use crate::cells::bag_of;
@@ -37,6 +38,7 @@ impl Chain {
     pub fn start(alloc: Global, owner: Owner) -> Result<(Chain, ZeroState), Memory>
         ensures root { IfOk result (λ x. x.1.root ≡ zero_root owner.number owner.chain) }
         ensures bag { IfOk result (λ x. IsBagFit x.1.bag) }
+        ensures export { IfOk result (λ x. IsExport x.1.bag) }
     {
         let mut state = vec![in alloc; ChildInfo::NONE; NODES]?;
         let shown = vec![in alloc; ChildInfo::NONE; NODES]?;
@@ -56,7 +58,8 @@ impl Chain {
 
     /// Goes on by the block of this seqno, and answers the bag of its update.
     pub fn go_on(&mut self, alloc: Global, seqno: u32) -> Result<Bytes, Memory>
-        ensures { IfOk result (λ bag. IsBagFit bag) }
+        ensures short { IfOk result (λ bag. IsBagFit bag) }
+        ensures export { IfOk result (λ bag. IsExport bag) }
     {
         let owner = self.owner;
         let rest = ((u64::from(seqno) + owner.number % 16) % 16) as usize;

@@ -1,6 +1,6 @@
-ghost use Rattle.std.specs.Prelude.{◌≡◌, IfOk};
+ghost use Rattle.std.specs.Prelude.{◌≡◌, ◌≤◌, IfOk};
 ghost use Rattle.cd_feed.specs.Feeds.{IsFeedFit};
-ghost use Rattle.cd_gen.specs.Generated.{feed_frame, frame_of};
+ghost use Rattle.cd_gen.specs.Generated.{IsExport, HasExports, feed_frame, frame_of};
 
 use crate::chain::Chain;
 use crate::names::Names;
@@ -23,7 +23,11 @@ struct Chains {
 
 impl Chains {
     /// Goes on by the blocks of this seqno; the masterchain ends one block before the shards.
-    fn go_on(&mut self, alloc: Global, seqno: u32) -> Result<BlockBags, Memory> {
+    fn go_on(&mut self, alloc: Global, seqno: u32) -> Result<BlockBags, Memory>
+        ensures left { IfOk result (λ bags. IsExport bags.left) }
+        ensures right { IfOk result (λ bags. IsExport bags.right) }
+        ensures master { IfOk result (λ bags. seqno ≤ LAST_MASTER → IsExport bags.master) }
+    {
         let left = self.left.go_on(alloc, seqno)?;
         let right = self.right.go_on(alloc, seqno)?;
         let master = if seqno > LAST_MASTER {
@@ -43,6 +47,7 @@ impl Chains {
 /// `Memory` is free.
 pub fn make_feed(alloc: Global, n: u64) -> Result<Feed, Memory>
     ensures frame { IfOk result (λ feed. feed_frame feed ≡ frame_of n) }
+    ensures exports { IfOk result (λ feed. HasExports feed) }
     ensures fit { IfOk result (λ feed. IsFeedFit feed) }
 {
     let (master, zero) = Chain::start(

@@ -131,7 +131,11 @@ fn node_over(levels: u32, first: u16) -> usize
 }
 
 /// Lists the inner cells of the nodes below this one, from the last to the first, each over what its children show.
-pub fn list_inner(cells: &mut Vec<Cell>, infos: &mut [ChildInfo], end: usize) -> Result<(), Memory>
+pub(crate) fn list_inner(
+    cells: &mut Vec<Cell>,
+    infos: &mut [ChildInfo],
+    end: usize,
+) -> Result<(), Memory>
     requires nodes { length infos.old ≡ NODES }
     requires end { end ≤ LEAVES }
 {
@@ -142,7 +146,11 @@ pub fn list_inner(cells: &mut Vec<Cell>, infos: &mut [ChildInfo], end: usize) ->
 }
 
 /// Lists the inner cell of a node.
-pub fn list_node(cells: &mut Vec<Cell>, infos: &mut [ChildInfo], node: usize) -> Result<(), Memory>
+pub(crate) fn list_node(
+    cells: &mut Vec<Cell>,
+    infos: &mut [ChildInfo],
+    node: usize,
+) -> Result<(), Memory>
     requires nodes { length infos.old ≡ NODES }
     requires inner { node < LEAVES }
 {
