@@ -1,0 +1,9 @@
+//! Tests of count plans, beside the crate that they test.
+#![tactic(auto)]
+
+#[cfg(test)]
+mod stores;
+#[cfg(test)]
+mod recount;
+#[cfg(test)]
+mod tests;
