@@ -1,2 +1,3 @@
+pub mod BatchKeys
 pub mod CellGraph
 pub mod Changes

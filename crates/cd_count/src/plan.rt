@@ -1,5 +1,20 @@
+ghost use Rattle.std.specs.Prelude.{◌≡◌, ◌++◌, [], map, length, IfOk, OnOk};
+ghost use Rattle.std.specs.List.{IsDistinct, AllByRecursion};
+ghost use Rattle.std.specs.Option.{option_to_list};
+ghost use Rattle.std.specs.Map.{keys_of};
+ghost use Rattle.std.specs.Ordering.{nat_cmp};
+ghost use Rattle.std.specs.Cmp.Lexicographic.{slice_cmp};
+ghost use Rattle.cd_block.specs.Block.{key_of};
+ghost use Rattle.cd_block.specs.Description.{IsDescrFit};
+ghost use Rattle.cd_keeper.specs.NoKeyTwice.{same_key};
+ghost use Rattle.cd_keeper.specs.Shown.{entries_of, hash_bytes, desc_bytes};
+ghost use Rattle.cd_nodes.specs.Plans as plans;
+ghost use Rattle.cd_record.specs.RecordText.{record_text};
+ghost use Rattle.cd_count.specs.Changes.{IsCellBatch};
+ghost use Rattle.cd_count.specs.PlanRows.{row_of, rows_of, IsRowFit, AreRowsFit, descr_puts};
+
 use crate::count_fault::CountFault;
-use crate::rows::{Rows, give_reference, list_cell, take_reference};
+use crate::rows::{Row, Rows, give_reference, list_cell, take_reference};
 use cd_base::{Hash256, Memory};
 use cd_block::{BlockId, Descr, encode_descr};
 use cd_cell::{Hash32, NewCell, Prepared};
@@ -7,17 +22,34 @@ use cd_keeper::{Batch, Keeper};
 use cd_record::encode_cell;
 use std::alloc::Global;
 use std::collections::BTreeMap;
+use std::marker::Model;
 
-/// How the counts of stored cells change, by hash: an ordered map with the count that is stored, the one to be, and
-/// the face, of each hash that was looked at.
+/// Records to put, and the hashes of those to drop.
+type Puts = Vec<(Hash256, Vec<u8>)>;
+
+/// How the counts of stored cells change: for each hash that was looked at, in the order of the hashes, the count that
+/// is stored, the one to be, and the face.
 #[derive(Drop)]
 pub struct Plan {
     rows: Rows,
 }
 
+impl Model for Plan {
+    ghost use Rattle.cd_count.specs.Changes as changes;
+    ghost use Rattle.cd_count.specs.PlanRows.{rows_of, AreRowsFit};
+
+    ghost Value = { changes.Rows };
+
+    ghost view = { λ p. rows_of p.rows.entries };
+
+    ghost invariant = { λ p. AreRowsFit (rows_of p.rows.entries) };
+}
+
 impl Plan {
     /// The plan that changes nothing. Takes no memory.
-    pub fn empty(alloc: Global) -> Plan {
+    pub fn empty(alloc: Global) -> Plan
+        ensures { result ≡ [] }
+    {
         Plan {
             rows: BTreeMap::new(alloc),
         }
@@ -30,28 +62,90 @@ impl Plan {
         alloc: Global,
         put_descs: Vec<Descr>,
         drop_descs: Vec<BlockId>,
-    ) -> Result<Batch, Memory> {
-        let mut put_cells = Vec::new(alloc);
-        let mut drop_cells = Vec::new(alloc);
-        for (hash, row) in self.rows.iter() {
-            if row.now == 0 {
-                if row.stored.is_some() {
-                    drop_cells.push(*hash)?;
-                }
-            } else if row.stored != Some(row.now) {
-                put_cells.push((*hash, encode_cell(alloc, row.now, &row.face)?))?;
-            }
-        }
-        let mut put = Vec::with_capacity(alloc, put_descs.len())?;
-        for descr in put_descs.iter() {
-            put.push((descr.id.to_key(), encode_descr(alloc, descr)?))?;
-        }
-        let mut drop = Vec::with_capacity(alloc, drop_descs.len())?;
-        for id in drop_descs.iter() {
-            drop.push(id.to_key())?;
-        }
-        Ok(Batch::from_parts(put_cells, drop_cells, put, drop))
+    ) -> Result<Batch, Memory>
+        requires fit { AllByRecursion IsDescrFit put_descs.items }
+        requires once { IsDistinct same_key (map key_of drop_descs.items ++ keys_of (descr_puts put_descs.items)) }
+        ensures once { plans.HasNoKeyTwice (slice_cmp nat_cmp) self }
+        ensures cells { IfOk result (λ batch. IsCellBatch self batch) }
+        ensures puts { IfOk result (λ batch. batch.put_descs ≡ descr_puts put_descs.items) }
+        ensures drops { IfOk result (λ batch. batch.drop_descs ≡ map key_of drop_descs.items) }
+    {
+        let mut puts = Vec::new(alloc);
+        let mut drops = Vec::new(alloc);
+        change_cells(alloc, &self.rows, &mut puts, &mut drops)?;
+        let put = texts_of(alloc, put_descs.as_slice())?;
+        let drop = keys_of(alloc, drop_descs.as_slice())?;
+        Ok(Batch::from_parts(puts, drops, put, drop))
     }
+}
+
+/// Adds what all rows put and drop.
+fn change_cells(
+    alloc: Global,
+    rows: &Rows,
+    puts: &mut Puts,
+    drops: &mut Vec<Hash256>,
+) -> Result<(), Memory>
+    requires { AreRowsFit (rows_of rows.now.entries) }
+    ensures puts { OnOk result (entries_of hash_bytes puts.new.items
+        ≡ entries_of hash_bytes puts.old.items ++ plans.puts record_text (rows_of rows.now.entries)) }
+    ensures drops { OnOk result (map hash_bytes drops.new.items
+        ≡ map hash_bytes drops.old.items ++ plans.drops record_text (rows_of rows.now.entries)) }
+    ensures once { plans.HasNoKeyTwice (slice_cmp nat_cmp) (rows_of rows.now.entries) }
+{
+    for (hash, row) in rows.iter() {
+        change_cell(alloc, hash, row, puts, drops)?;
+    }
+    Ok(())
+}
+
+/// Adds what a row puts or drops: nothing where its count is the one that is stored.
+fn change_cell(
+    alloc: Global,
+    hash: &Hash256,
+    row: &Row,
+    puts: &mut Puts,
+    drops: &mut Vec<Hash256>,
+) -> Result<(), Memory>
+    requires { IsRowFit (row_of row.now) }
+    ensures puts { OnOk result (entries_of hash_bytes puts.new.items ≡ entries_of hash_bytes puts.old.items
+        ++ option_to_list (plans.put_entry record_text (hash.now.0, row_of row.now))) }
+    ensures drops { OnOk result (map hash_bytes drops.new.items ≡ map hash_bytes drops.old.items
+        ++ option_to_list (plans.drop_entry record_text (hash.now.0, row_of row.now))) }
+{
+    if row.count == 0 {
+        if row.stored.is_some() {
+            drops.push(*hash)?;
+        }
+        return Ok(());
+    }
+    if row.stored == Some(row.count) {
+        return Ok(());
+    }
+    puts.push((*hash, encode_cell(alloc, row.count, &row.face)?))?;
+    Ok(())
+}
+
+/// The keys and texts of some descriptions.
+fn texts_of(alloc: Global, descs: &[Descr]) -> Result<Vec<([u8; 80], Vec<u8>)>, Memory>
+    requires { AllByRecursion IsDescrFit descs.now }
+    ensures { IfOk result (λ puts. entries_of desc_bytes puts.items ≡ descr_puts descs.now) }
+{
+    let mut puts = Vec::with_capacity(alloc, descs.len())?;
+    for descr in descs {
+        puts.push((descr.id.to_key(), encode_descr(alloc, descr)?))?;
+    }
+    Ok(puts)
+}
+
+fn keys_of(alloc: Global, ids: &[BlockId]) -> Result<Vec<[u8; 80]>, Memory>
+    ensures { IfOk result (λ keys. map desc_bytes keys.items ≡ map key_of ids.now) }
+{
+    let mut keys = Vec::with_capacity(alloc, ids.len())?;
+    for id in ids {
+        keys.push(id.to_key())?;
+    }
+    Ok(keys)
 }
 
 /// The counts once a block with the value's tree comes. Each listed cell is compared with what is stored; a cell that
@@ -116,10 +210,10 @@ fn clash_of(rows: &Rows, cell: &NewCell) -> CountFault {
 /// Refuses the least hash whose count rises over the limit.
 fn check_limit(rows: &Rows, limit: u64) -> Result<(), CountFault> {
     for (hash, row) in rows.iter() {
-        if row.now > limit && row.now > row.stored.unwrap_or(0) {
+        if row.count > limit && row.count > row.stored.unwrap_or(0) {
             return Err(CountFault::CountFull {
                 hash: *hash,
-                count: row.now,
+                count: row.count,
             });
         }
     }

@@ -12,7 +12,7 @@ use std::collections::BTreeMap;
 #[derive(Drop)]
 pub struct Row {
     pub stored: Option<u64>,
-    pub now: u64,
+    pub count: u64,
     pub face: Face,
 }
 
@@ -34,7 +34,7 @@ pub fn read_record<K: Keeper>(
 fn row_of(record: Record) -> Row {
     Row {
         stored: Some(record.count),
-        now: record.count,
+        count: record.count,
         face: record.face,
     }
 }
@@ -49,7 +49,7 @@ pub fn list_cell<K: Keeper>(
         Some(record) => row_of(record),
         None => Row {
             stored: None,
-            now: 0,
+            count: 0,
             face: cell.face,
         },
     };
@@ -79,10 +79,10 @@ pub fn give_reference<K: Keeper>(
 
 /// One reference more. No memory could list as many cells as it takes to pass the last u64.
 fn raise(row: &mut Row) -> Result<(), Memory> {
-    let Some(now) = row.now.checked_add(1) else {
+    let Some(count) = row.count.checked_add(1) else {
         return Err(Memory);
     };
-    row.now = now;
+    row.count = count;
     Ok(())
 }
 
@@ -106,9 +106,9 @@ pub fn take_reference<K: Keeper>(
 }
 
 fn lower(row: &mut Row, dead: &mut Vec<Hash256>, hash: &Hash256) -> Result<(), AllocError> {
-    if row.now == 1 {
+    if row.count == 1 {
         dead.push(*hash)?;
     }
-    row.now = row.now.saturating_sub(1);
+    row.count = row.count.saturating_sub(1);
     Ok(())
 }
