@@ -1,3 +1,4 @@
 pub mod BatchKeys
 pub mod CellGraph
 pub mod Changes
+pub mod Steps

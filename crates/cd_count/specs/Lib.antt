@@ -1,4 +1,5 @@
 pub mod Changes
 pub mod Laws
 pub mod PlanRows
+pub mod PlanSteps
 pub mod Reading

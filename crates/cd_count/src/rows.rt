@@ -1,5 +1,12 @@
 //! What a plan has of each hash while it is made.
 
+ghost use Rattle.std.specs.Prelude.{◌≡◌, ◌+◌, ◌-◌, ◌≤◌, map, take, length, Some, IfSome, IfOk, OnOk};
+ghost use Rattle.cd_cell.specs.Infos.{rep_of_info};
+ghost use Rattle.cd_keeper.specs.Shown.{hash_bytes};
+ghost use Rattle.cd_keeper.specs.Keeping.{KeepsHeld};
+ghost use Rattle.cd_count.specs.Reading.{stored_in};
+ghost use Rattle.cd_count.specs.PlanSteps.{first_row, with_last, IsTaken, AreTaken};
+
 use crate::count_fault::CountFault;
 use cd_base::{Hash256, Memory};
 use cd_cell::{Face, NewCell};
@@ -23,7 +30,12 @@ pub type Rows = BTreeMap<Hash256, Row>;
 pub fn read_record<K: Keeper>(
     keeper: &mut K,
     hash: &Hash256,
-) -> Result<Option<Record>, CountFault> {
+) -> Result<Option<Record>, CountFault>
+    ensures value { IfOk result (λ found. IfSome (K.held keeper.old)
+        (λ contents. found ≡ stored_in contents hash.now.0)) }
+    ensures keeps { KeepsHeld K.held K.trail K.batches keeper.old keeper.new }
+    ensures reads { K.reads keeper.new ≤ K.reads keeper.old + 1 }
+{
     match keeper.get_cell(hash)? {
         Some(bytes) => Ok(decode(bytes.as_slice()).ok()),
         None => Ok(None),
@@ -31,11 +43,13 @@ pub fn read_record<K: Keeper>(
 }
 
 /// The row of a stored cell before anything changes.
-fn row_of(record: Record) -> Row {
+fn row_of(found: Record) -> Row
+    ensures { result ≡ first_row found }
+{
     Row {
-        stored: Some(record.count),
-        count: record.count,
-        face: record.face,
+        stored: Some(found.count),
+        count: found.count,
+        face: found.face,
     }
 }
 
@@ -92,7 +106,12 @@ pub fn take_reference<K: Keeper>(
     keeper: &mut K,
     dead: &mut Vec<Hash256>,
     hash: &Hash256,
-) -> Result<(), CountFault> {
+) -> Result<(), CountFault>
+    ensures taken { OnOk result (IfSome (K.held keeper.old) (λ contents.
+        IsTaken (stored_in contents) rows.old dead.old.items hash.now.0 rows.new dead.new.items)) }
+    ensures keeps { KeepsHeld K.held K.trail K.batches keeper.old keeper.new }
+    ensures reads { K.reads keeper.new ≤ K.reads keeper.old + 1 }
+{
     if let Some(row) = rows.get_mut(hash) {
         return Ok(lower(row, dead, hash)?);
     }
@@ -105,7 +124,42 @@ pub fn take_reference<K: Keeper>(
     Ok(())
 }
 
-fn lower(row: &mut Row, dead: &mut Vec<Hash256>, hash: &Hash256) -> Result<(), AllocError> {
+/// Takes one reference of each hash away.
+pub fn take_references<K: Keeper>(
+    rows: &mut Rows,
+    keeper: &mut K,
+    dead: &mut Vec<Hash256>,
+    hashes: &[Hash256],
+) -> Result<(), CountFault>
+    ensures taken { OnOk result (IfSome (K.held keeper.old) (λ contents.
+        AreTaken (stored_in contents) rows.old dead.old.items (map hash_bytes hashes.now) rows.new dead.new.items)) }
+    ensures keeps { KeepsHeld K.held K.trail K.batches keeper.old keeper.new }
+    ensures reads { K.reads keeper.new ≤ K.reads keeper.old + length hashes.now }
+{
+    for hash in hashes {
+        take_reference(rows, keeper, dead, hash)?;
+    }
+    Ok(())
+}
+
+/// The hashes of the children, and their number; behind them stands a filler.
+pub fn kid_hashes(face: &Face) -> ([Hash256; 4], usize)
+    ensures few { result.1 ≤ 4 }
+    ensures value { take result.1 result.0 ≡ map rep_of_info face.now.kids }
+{
+    let mut hashes = [Hash256([0; 32]); 4];
+    let kids = face.kids();
+    for (place, kid) in kids.iter().enumerate() {
+        hashes[place] = kid.rep();
+    }
+    (hashes, kids.len())
+}
+
+/// One reference less. Where it was the last, the hash goes behind the dead.
+fn lower(row: &mut Row, dead: &mut Vec<Hash256>, hash: &Hash256) -> Result<(), AllocError>
+    ensures row { OnOk result (row.new ≡ record row.old { count = row.old.count - 1 }) }
+    ensures dead { OnOk result (dead.new.items ≡ with_last row.old.count dead.old.items hash.now) }
+{
     if row.count == 1 {
         dead.push(*hash)?;
     }
