@@ -7,6 +7,7 @@ use Rattle.std.specs.Cmp.Lexicographic.{slice_cmp}
 use Rattle.std.specs.BTreeMap as tree
 use Rattle.std.proofs.lemmas.Slice.Eq.{bytes_eq-Decides}
 use Rattle.std.proofs.lemmas.List.{map_push}
+use Rattle.std.proofs.lemmas.List.Sums.{fold_push}
 use Rattle.cd_base.specs.declared.hash.Hash256.{Hash256}
 use Rattle.cd_cell.specs.Export.{hash_cmp}
 use Rattle.cd_keeper.specs.Shown.{hash_bytes}
@@ -15,7 +16,7 @@ use Rattle.cd_nodes.specs.Worklists.{Left, take_one}
 use Rattle.cd_nodes.proofs.Held.{same_by_order}
 use Rattle.cd_count.specs.declared.rows.Row.{Row}
 use Rattle.cd_count.specs.Changes.{cell_graph}
-use Rattle.cd_count.specs.PlanSteps.{RowMap, first_row, fixed_part, with_last, row_at, count_of_row, count_at, fixed_at, left_in, IsTaken}
+use Rattle.cd_count.specs.PlanSteps.{RowMap, first_row, fixed_part, with_last, row_at, count_of_row, count_at, fixed_at, left_in, IsTaken, AreTaken}
 use Rattle.cd_count.proofs.CellGraph.{is_graph}
 
 -- the two tests of hashes answer alike
@@ -124,3 +125,15 @@ module _ {X : Type 0} where
   pub if_some-map : (P Q : X → Type 0) (o : Option X) → IfSome o P → ((x : X) → P x → Q x) → IfSome o Q
   if_some-map P Q None p f = tt
   if_some-map P Q (Some x) p f = f x p
+
+  pub if_both : (P Q R : X → Type 0) (o : Option X) → IfSome o P → IfSome o Q → ((x : X) → P x → Q x → R x) → IfSome o R
+  if_both P Q R None p q f = tt
+  if_both P Q R (Some x) p q f = f x p q
+
+-- one reference more was taken away
+pub are_taken-more : (stored : List ℕ → Option Record) (r s t : RowMap) (dead dead' dead'' : List Hash256) (hashes : List (List ℕ)) (hash : List ℕ)
+    → AreTaken stored r dead hashes s dead' → IsTaken stored s dead' hash t dead'' → AreTaken stored r dead (hashes ++ hash ∷ []) t dead''
+are_taken-more stored r s t dead dead' dead'' hashes hash so last = record {
+  left = last.left ∙ ap (λ (l : Left (List ℕ)). take_one bytes_eq l hash) so.left ∙ sym (fold_push (take_one bytes_eq) (left_in stored r dead) hashes hash);
+  fixed = λ h. last.fixed h ∙ so.fixed h;
+}

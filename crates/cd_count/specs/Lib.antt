@@ -2,4 +2,5 @@ pub mod Changes
 pub mod Laws
 pub mod PlanRows
 pub mod PlanSteps
+pub mod PlanWorlds
 pub mod Reading

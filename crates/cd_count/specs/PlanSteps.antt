@@ -5,6 +5,7 @@ use Rattle.std.specs.Str.{bytes_eq}
 use Rattle.std.specs.BTreeMap as tree
 use Rattle.cd_base.specs.declared.hash.Hash256.{Hash256}
 use Rattle.cd_cell.specs.FaceView.{FaceView}
+use Rattle.cd_cell.specs.Infos.{rep_of_info}
 use Rattle.cd_cell.specs.Export.{hash_cmp}
 use Rattle.cd_keeper.specs.Contents.{Contents}
 use Rattle.cd_keeper.specs.Shown.{hash_bytes}
@@ -21,6 +22,10 @@ first_row r = record { stored = Some r.count; count = r.count; face = r.face }
 
 abbrev pub fixed_part : Row → Option ℕ × FaceView
 fixed_part r = (r.stored, r.face)
+
+-- the hashes of a face's children, as bytes
+abbrev pub kid_bytes : FaceView → List (List ℕ)
+kid_bytes face = map hash_bytes (map rep_of_info face.kids)
 
 abbrev pub with_last : ℕ → List Hash256 → Hash256 → List Hash256
 with_last count dead hash = cond (nat_eq count 1) (dead ++ hash ∷ []) dead

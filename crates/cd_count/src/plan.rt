@@ -1,4 +1,9 @@
-ghost use Rattle.std.specs.Prelude.{◌≡◌, ◌++◌, [], map, length, IfOk, OnOk};
+ghost use Rattle.std.specs.Prelude.{◌≡◌, ℕ, ◌+◌, ◌*◌, ◌≤◌, ◌++◌, List, [], map, length, IfSome, IfOk, OnOk};
+ghost use Rattle.cd_base.specs.declared.hash.Hash256.{Hash256};
+ghost use Rattle.cd_cell.specs.Tree.{Tree};
+ghost use Rattle.cd_keeper.specs.Keeping.{KeepsHeld};
+ghost use Rattle.cd_world.specs.World.{World, Block};
+ghost use Rattle.cd_count.specs.PlanWorlds.{IsReadable, AreAdded, IsDropped};
 ghost use Rattle.std.specs.List.{IsDistinct, AllByRecursion};
 ghost use Rattle.std.specs.Option.{option_to_list};
 ghost use Rattle.std.specs.Map.{keys_of};
@@ -10,11 +15,11 @@ ghost use Rattle.cd_keeper.specs.NoKeyTwice.{same_key};
 ghost use Rattle.cd_keeper.specs.Shown.{entries_of, hash_bytes, desc_bytes};
 ghost use Rattle.cd_nodes.specs.Plans as plans;
 ghost use Rattle.cd_record.specs.RecordText.{record_text};
-ghost use Rattle.cd_count.specs.Changes.{IsCellBatch};
+ghost use Rattle.cd_count.specs.Changes.{states, rep_bytes, AreTogether, IsCellBatch};
 ghost use Rattle.cd_count.specs.PlanRows.{row_of, rows_of, IsRowFit, AreRowsFit, descr_puts};
 
 use crate::count_fault::CountFault;
-use crate::rows::{Row, Rows, give_reference, list_cell, take_reference};
+use crate::rows::{Row, Rows, give_reference, list_cell, take_kids, take_references};
 use cd_base::{Hash256, Memory};
 use cd_block::{BlockId, Descr, encode_descr};
 use cd_cell::{Hash32, NewCell, Prepared};
@@ -230,36 +235,33 @@ pub fn plan_drop<K: Keeper>(
     roots: &[Hash256],
 ) -> Result<Plan, CountFault> {
     let mut rows = plan.rows;
-    let mut dead = Vec::new(alloc);
-    for root in roots {
-        take_reference(&mut rows, keeper, &mut dead, root)?;
-    }
-    let mut next = 0;
-    while next < dead.len() {
-        let hash = dead[next];
-        take_kids(&mut rows, keeper, &mut dead, &hash)?;
-        next += 1;
-    }
+    drop_roots(alloc, &mut rows, keeper, roots)?;
     Ok(Plan { rows })
 }
 
-/// Takes away one reference for each child place of a dead cell.
-fn take_kids<K: Keeper>(
+/// Takes away the references of roots, and those of each cell that has none left.
+fn drop_roots<K: Keeper>(
+    alloc: Global,
     rows: &mut Rows,
     keeper: &mut K,
-    dead: &mut Vec<Hash256>,
-    hash: &Hash256,
-) -> Result<(), CountFault> {
-    let Some(row) = rows.get(hash) else {
-        return Ok(());
-    };
-    let mut kids = [Hash256([0; 32]); 4];
-    let refs = row.face.kids().len();
-    for (place, kid) in row.face.kids().iter().enumerate() {
-        kids[place] = kid.rep();
+    roots: &[Hash256],
+) -> Result<Vec<Hash256>, CountFault>
+    ensures dropped { IfOk result (λ dead. IfSome (K.held keeper.old) (λ contents.
+        (H : List ℕ → Hash256) (old grown left : World) (come gone : List Block) (news : List Tree)
+        → IsReadable H old contents → AreAdded H old grown come news rows.old
+        → AreTogether H left.blocks gone grown.blocks → map (rep_bytes H) (states gone) ≡ map hash_bytes roots.now
+        → IsDropped H old grown come gone news rows.new dead.items)) }
+    ensures keeps { KeepsHeld K.held K.trail K.batches keeper.old keeper.new }
+    ensures reads { IfOk result (λ dead.
+        K.reads keeper.new ≤ K.reads keeper.old + (length roots.now + 4 * length dead.items)) }
+{
+    let mut dead = Vec::new(alloc);
+    take_references(rows, keeper, &mut dead, roots)?;
+    let mut next = 0;
+    while next < dead.len() {
+        let hash = dead[next];
+        take_kids(rows, keeper, &mut dead, &hash)?;
+        next += 1;
     }
-    for kid in &kids[..refs] {
-        take_reference(rows, keeper, dead, kid)?;
-    }
-    Ok(())
+    Ok(dead)
 }

@@ -5,7 +5,10 @@ ghost use Rattle.cd_cell.specs.Infos.{rep_of_info};
 ghost use Rattle.cd_keeper.specs.Shown.{hash_bytes};
 ghost use Rattle.cd_keeper.specs.Keeping.{KeepsHeld};
 ghost use Rattle.cd_count.specs.Reading.{stored_in};
-ghost use Rattle.cd_count.specs.PlanSteps.{first_row, with_last, IsTaken, AreTaken};
+ghost use Rattle.cd_count.specs.PlanSteps.{kid_bytes, first_row, with_last, IsTaken, AreTaken};
+ghost use Rattle.std.specs.BTreeMap as tree;
+ghost use Rattle.cd_cell.specs.Export.{hash_cmp};
+ghost use Rattle.cd_count.specs.declared.rows.Row.{Row};
 
 use crate::count_fault::CountFault;
 use cd_base::{Hash256, Memory};
@@ -140,6 +143,26 @@ pub fn take_references<K: Keeper>(
         take_reference(rows, keeper, dead, hash)?;
     }
     Ok(())
+}
+
+/// Takes away one reference for each child place of a cell that has a row.
+pub fn take_kids<K: Keeper>(
+    rows: &mut Rows,
+    keeper: &mut K,
+    dead: &mut Vec<Hash256>,
+    hash: &Hash256,
+) -> Result<(), CountFault>
+    ensures taken { OnOk result (IfSome (K.held keeper.old) (λ contents. (row : Row)
+        → tree.get hash_cmp rows.old hash.now ≡ Some row → AreTaken (stored_in contents) rows.old dead.old.items
+        (kid_bytes row.face) rows.new dead.new.items)) }
+    ensures keeps { KeepsHeld K.held K.trail K.batches keeper.old keeper.new }
+    ensures reads { K.reads keeper.new ≤ K.reads keeper.old + 4 }
+{
+    let Some(row) = rows.get(hash) else {
+        return Ok(());
+    };
+    let (kids, refs) = kid_hashes(&row.face);
+    take_references(rows, keeper, dead, &kids[..refs])
 }
 
 /// The hashes of the children, and their number; behind them stands a filler.
