@@ -1,4 +1,5 @@
 pub mod BatchKeys
 pub mod CellGraph
 pub mod Changes
+pub mod Drops
 pub mod Steps
