@@ -113,6 +113,7 @@ pub fn take_reference<K: Keeper>(
     ensures taken { OnOk result (IfSome (K.held keeper.old) (λ contents.
         IsTaken (stored_in contents) rows.old dead.old.items hash.now.0 rows.new dead.new.items)) }
     ensures keeps { KeepsHeld K.held K.trail K.batches keeper.old keeper.new }
+    ensures longer { OnOk result (length dead.old.items ≤ length dead.new.items) }
     ensures reads { K.reads keeper.new ≤ K.reads keeper.old + 1 }
 {
     if let Some(row) = rows.get_mut(hash) {
@@ -137,6 +138,7 @@ pub fn take_references<K: Keeper>(
     ensures taken { OnOk result (IfSome (K.held keeper.old) (λ contents.
         AreTaken (stored_in contents) rows.old dead.old.items (map hash_bytes hashes.now) rows.new dead.new.items)) }
     ensures keeps { KeepsHeld K.held K.trail K.batches keeper.old keeper.new }
+    ensures longer { OnOk result (length dead.old.items ≤ length dead.new.items) }
     ensures reads { K.reads keeper.new ≤ K.reads keeper.old + length hashes.now }
 {
     for hash in hashes {
@@ -156,6 +158,7 @@ pub fn take_kids<K: Keeper>(
         → tree.get hash_cmp rows.old hash.now ≡ Some row → AreTaken (stored_in contents) rows.old dead.old.items
         (kid_bytes row.face) rows.new dead.new.items)) }
     ensures keeps { KeepsHeld K.held K.trail K.batches keeper.old keeper.new }
+    ensures longer { OnOk result (length dead.old.items ≤ length dead.new.items) }
     ensures reads { K.reads keeper.new ≤ K.reads keeper.old + 4 }
 {
     let Some(row) = rows.get(hash) else {
@@ -182,6 +185,7 @@ pub fn kid_hashes(face: &Face) -> ([Hash256; 4], usize)
 fn lower(row: &mut Row, dead: &mut Vec<Hash256>, hash: &Hash256) -> Result<(), AllocError>
     ensures row { OnOk result (row.new ≡ record row.old { count = row.old.count - 1 }) }
     ensures dead { OnOk result (dead.new.items ≡ with_last row.old.count dead.old.items hash.now) }
+    ensures longer { OnOk result (length dead.old.items ≤ length dead.new.items) }
 {
     if row.count == 1 {
         dead.push(*hash)?;
