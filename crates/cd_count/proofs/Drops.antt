@@ -93,7 +93,7 @@ kid_bytes-children H [] = refl
 kid_bytes-children H (t ∷ ts) = ap (λ ks. rep_bytes H t ∷ ks) (kid_bytes-children H ts)
 
 module _ (H : List ℕ → Hash256) (contents : Contents) (old grown left : World) (come gone : List Block) (news : List Tree) (readable : IsReadable H old contents)
-    (rows0 : RowMap) (added : AreAdded H old grown come news rows0) (went : AreTogether H left.blocks gone grown.blocks) where
+    (rows0 : RowMap) (added : AreAdded H old grown come news (rows_of rows0.entries)) (went : AreTogether H left.blocks gone grown.blocks) where
   abbrev G : nodes.Graph Tree (List ℕ)
   G = cell_graph H
 

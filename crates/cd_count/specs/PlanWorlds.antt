@@ -23,8 +23,8 @@ module _ (H : List ℕ → Hash256) where
   IsReadable world contents = (hash : List ℕ) → stored_in contents hash ≡ option_map (record_of_cell world hash) (held_under H world hash)
 
   -- the rows have the references of the blocks that come, and nothing goes
-  abbrev pub AreAdded : World → World → List Block → List Tree → RowMap → Type 0
-  AreAdded old grown come news rows = AreCounted H old grown grown come [] news [] (rows_of rows.entries)
+  abbrev pub AreAdded : World → World → List Block → List Tree → Rows → Type 0
+  AreAdded old grown come news rows = AreCounted H old grown grown come [] news [] rows
 
   -- the rows have the references that come and those that go, and these are the hashes of the dead cells
   pub record IsDropped (old grown : World) (come gone : List Block) (news : List Tree) (rows : RowMap) (dead : List Hash256)

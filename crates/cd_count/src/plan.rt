@@ -248,7 +248,7 @@ fn drop_roots<K: Keeper>(
 ) -> Result<Vec<Hash256>, CountFault>
     ensures dropped { IfOk result (λ dead. IfSome (K.held keeper.old) (λ contents.
         (H : List ℕ → Hash256) (old grown left : World) (come gone : List Block) (news : List Tree)
-        → IsReadable H old contents → AreAdded H old grown come news rows.old
+        → IsReadable H old contents → AreAdded H old grown come news (rows_of rows.old.entries)
         → AreTogether H left.blocks gone grown.blocks → map (rep_bytes H) (states gone) ≡ map hash_bytes roots.now
         → IsDropped H old grown come gone news rows.new dead.items)) }
     ensures keeps { KeepsHeld K.held K.trail K.batches keeper.old keeper.new }

@@ -4,7 +4,7 @@ ghost use Rattle.std.specs.Prelude.{◌≡◌, ◌+◌, ◌-◌, ◌≤◌, map,
 ghost use Rattle.cd_cell.specs.Infos.{rep_of_info};
 ghost use Rattle.cd_keeper.specs.Shown.{hash_bytes};
 ghost use Rattle.cd_keeper.specs.Keeping.{KeepsHeld};
-ghost use Rattle.cd_count.specs.Reading.{stored_in};
+ghost use Rattle.cd_count.specs.Reading.{stored_in, HasCountCause};
 ghost use Rattle.cd_count.specs.PlanSteps.{kid_bytes, first_row, with_last, IsTaken, AreTaken};
 ghost use Rattle.std.specs.BTreeMap as tree;
 ghost use Rattle.cd_cell.specs.Export.{hash_cmp};
@@ -38,6 +38,7 @@ pub fn read_record<K: Keeper>(
         (λ contents. found ≡ stored_in contents hash.now.0)) }
     ensures keeps { KeepsHeld K.held K.trail K.batches keeper.old keeper.new }
     ensures reads { K.reads keeper.new ≤ K.reads keeper.old + 1 }
+    ensures cause { HasCountCause (K.faults keeper.old) (K.faults keeper.new) result }
 {
     match keeper.get_cell(hash)? {
         Some(bytes) => Ok(decode(bytes.as_slice()).ok()),
@@ -115,6 +116,7 @@ pub fn take_reference<K: Keeper>(
     ensures keeps { KeepsHeld K.held K.trail K.batches keeper.old keeper.new }
     ensures longer { OnOk result (length dead.old.items ≤ length dead.new.items) }
     ensures reads { K.reads keeper.new ≤ K.reads keeper.old + 1 }
+    ensures cause { HasCountCause (K.faults keeper.old) (K.faults keeper.new) result }
 {
     if let Some(row) = rows.get_mut(hash) {
         return Ok(lower(row, dead, hash)?);
@@ -140,6 +142,7 @@ pub fn take_references<K: Keeper>(
     ensures keeps { KeepsHeld K.held K.trail K.batches keeper.old keeper.new }
     ensures longer { OnOk result (length dead.old.items ≤ length dead.new.items) }
     ensures reads { K.reads keeper.new ≤ K.reads keeper.old + length hashes.now }
+    ensures cause { HasCountCause (K.faults keeper.old) (K.faults keeper.new) result }
 {
     for hash in hashes {
         take_reference(rows, keeper, dead, hash)?;
@@ -160,6 +163,7 @@ pub fn take_kids<K: Keeper>(
     ensures keeps { KeepsHeld K.held K.trail K.batches keeper.old keeper.new }
     ensures longer { OnOk result (length dead.old.items ≤ length dead.new.items) }
     ensures reads { K.reads keeper.new ≤ K.reads keeper.old + 4 }
+    ensures cause { HasCountCause (K.faults keeper.old) (K.faults keeper.new) result }
 {
     let Some(row) = rows.get(hash) else {
         return Ok(());

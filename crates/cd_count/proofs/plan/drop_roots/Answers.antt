@@ -9,6 +9,7 @@ use Rattle.cd_world.specs.World.{World, Block}
 use Rattle.cd_count.specs.declared.rows.Row.{Row}
 use Rattle.cd_count.specs.Changes.{states, rep_bytes, AreTogether}
 use Rattle.cd_count.specs.PlanWorlds.{IsReadable, AreAdded, IsDropped}
+use Rattle.cd_count.specs.PlanRows.{rows_of}
 use Rattle.cd_count.specs.PlanSteps.{RowMap, kid_bytes, AreTaken}
 use Rattle.cd_count.specs.Reading.{stored_in}
 use Rattle.cd_count.proofs.Drops.{IsGoing, going-begun, going-next, going-ended}
@@ -18,7 +19,7 @@ use Rattle.cd_count.proofs.plan.drop_roots.Goals as goal
 abbrev Goes : RowMap → List Hash256 → RowMap → List Hash256 → ℕ → Contents → Type 0
 Goes rows0 roots rows dead next contents =
     (H : List ℕ → Hash256) (old grown left : World) (come gone : List Block) (news : List Tree)
-    (readable : IsReadable H old contents) (added : AreAdded H old grown come news rows0) (went : AreTogether H left.blocks gone grown.blocks)
+    (readable : IsReadable H old contents) (added : AreAdded H old grown come news (rows_of rows0.entries)) (went : AreTogether H left.blocks gone grown.blocks)
     → map (rep_bytes H) (states gone) ≡ map hash_bytes roots
     → IsGoing H contents old grown left come gone news readable rows0 added went rows dead next
 
@@ -71,7 +72,7 @@ returns-clause-dropped g c =
     let so = c.loop-next.invariant in
     if_some-map (Goes c.args.rows.now c.args.roots.now c.loop-next.rows c.loop-next.dead.items c.loop-next.next)
     (λ (contents : Contents). (H : List ℕ → Hash256) (old grown left : World) (come gone : List Block) (news : List Tree)
-    → IsReadable H old contents → AreAdded H old grown come news c.args.rows.now → AreTogether H left.blocks gone grown.blocks
+    → IsReadable H old contents → AreAdded H old grown come news (rows_of c.args.rows.now.entries) → AreTogether H left.blocks gone grown.blocks
     → map (rep_bytes H) (states gone) ≡ map hash_bytes c.args.roots.now → IsDropped H old grown come gone news c.loop-next.rows c.loop-next.dead.items)
     (g.K.Keeper.held c.args.keeper.now) so.going
     (λ contents going H old grown left come gone news readable added went named.

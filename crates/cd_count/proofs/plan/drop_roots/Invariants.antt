@@ -5,6 +5,7 @@ use Rattle.cd_keeper.specs.Keeping.{KeepsHeld}
 use Rattle.cd_keeper.specs.Shown.{hash_bytes}
 use Rattle.cd_world.specs.World.{World, Block}
 use Rattle.cd_count.specs.Changes.{states, rep_bytes, AreTogether}
+use Rattle.cd_count.specs.PlanRows.{rows_of}
 use Rattle.cd_count.specs.PlanWorlds.{IsReadable, AreAdded}
 use Rattle.cd_count.proofs.Drops.{IsGoing}
 use Rattle.cd_count.proofs.plan.drop_roots.Given as goal
@@ -13,7 +14,7 @@ abbrev pub invariant-loop-next : goal.invariant-loop-next
 invariant-loop-next g l = record {
   within : l.next ≤ length l.dead.items;
   going : IfSome (g.K.Keeper.held l.fn.keeper) (λ contents. (H : List ℕ → Hash256) (old grown left : World) (come gone : List Block) (news : List Tree)
-      (readable : IsReadable H old contents) (added : AreAdded H old grown come news l.fn.rows) (went : AreTogether H left.blocks gone grown.blocks)
+      (readable : IsReadable H old contents) (added : AreAdded H old grown come news (rows_of l.fn.rows.entries)) (went : AreTogether H left.blocks gone grown.blocks)
       → map (rep_bytes H) (states gone) ≡ map hash_bytes l.fn.roots
       → IsGoing H contents old grown left come gone news readable l.fn.rows added went l.rows l.dead.items l.next);
   keeps : KeepsHeld g.K.Keeper.held g.K.Keeper.trail g.K.Keeper.batches l.fn.keeper l.keeper;

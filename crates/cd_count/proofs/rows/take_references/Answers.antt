@@ -32,6 +32,7 @@ loop-hash-preserved g c =
         same_trail = step.keeps.same_trail ∙ so.keeps.same_trail;
         same_batches = step.keeps.same_batches ∙ so.keeps.same_batches;
       };
+      steady = step.cause.steady ∙ so.steady;
       longer = omega (arith, step.longer, so.longer);
       reads = omega (arith, step.reads, so.reads);
     }

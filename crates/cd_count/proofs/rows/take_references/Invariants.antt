@@ -10,6 +10,7 @@ invariant-loop-hash g l = record {
   taken : IfSome (g.K.Keeper.held l.initial.keeper) (λ contents.
   AreTaken (stored_in contents) l.initial.rows l.initial.dead.items (map hash_bytes (take l.hash-index l.hashes)) l.rows l.dead.items);
   keeps : KeepsHeld g.K.Keeper.held g.K.Keeper.trail g.K.Keeper.batches l.initial.keeper l.keeper;
+  steady : g.K.Keeper.faults l.keeper ≡ g.K.Keeper.faults l.initial.keeper;
   longer : length l.initial.dead.items ≤ length l.dead.items;
   reads : g.K.Keeper.reads l.keeper ≤ g.K.Keeper.reads l.initial.keeper + l.hash-index;
 }
