@@ -76,7 +76,6 @@ find-rows h (e ∷ es) =
       | false ↦ find-rows h es
     ]
 
-
 row_in-at : (rows : RowMap) (q : List ℕ) → row_in (rows_of rows.entries) q ≡ option_map row_of (tree.get hash_cmp rows (record { 0 = q }))
 row_in-at rows q = find-rows (record { 0 = q }) rows.entries
 
@@ -303,3 +302,19 @@ module _ (H : List ℕ → Hash256) (contents : Contents) (old grown left : Worl
               omega arith;
         };
       }
+
+  -- with the hashes in order, the rows are those of a plan, and there are as many dead cells as hashes
+  pub dropped-counted : (rows : RowMap) (dead : List Hash256) → plans.HasNoKeyTwice (slice_cmp nat_cmp) (rows_of rows.entries)
+      → (so : IsDropped H old grown come gone news rows dead) → AreCounted H old grown left come gone news so.cells (rows_of rows.entries) × (length so.cells ≡ length dead)
+  dropped-counted rows dead once so = (
+    record {
+      came = added.came;
+      went = went;
+      clash_free = added.clash_free;
+      new = added.new;
+      ended = so.ended;
+      rows_are = so.rows_are;
+      once = once;
+    },
+    sym (length-map (rep_bytes H) so.cells) ∙ ap length so.named ∙ length-map hash_bytes dead,
+  )

@@ -2,4 +2,5 @@ pub mod BatchKeys
 pub mod CellGraph
 pub mod Changes
 pub mod Drops
+pub mod FitRows
 pub mod Steps

@@ -3,6 +3,7 @@ ghost use Rattle.cd_base.specs.declared.hash.Hash256.{Hash256};
 ghost use Rattle.cd_cell.specs.Tree.{Tree};
 ghost use Rattle.cd_keeper.specs.Keeping.{KeepsHeld};
 ghost use Rattle.cd_world.specs.World.{World, Block};
+ghost use Rattle.cd_count.specs.Reading.{HasCountCause};
 ghost use Rattle.cd_count.specs.PlanWorlds.{IsReadable, AreAdded, IsDropped};
 ghost use Rattle.std.specs.List.{IsDistinct, AllByRecursion};
 ghost use Rattle.std.specs.Option.{option_to_list};
@@ -15,7 +16,7 @@ ghost use Rattle.cd_keeper.specs.NoKeyTwice.{same_key};
 ghost use Rattle.cd_keeper.specs.Shown.{entries_of, hash_bytes, desc_bytes};
 ghost use Rattle.cd_nodes.specs.Plans as plans;
 ghost use Rattle.cd_record.specs.RecordText.{record_text};
-ghost use Rattle.cd_count.specs.Changes.{states, rep_bytes, AreTogether, IsCellBatch};
+ghost use Rattle.cd_count.specs.Changes.{states, rep_bytes, AreTogether, AreCounted, IsCellBatch};
 ghost use Rattle.cd_count.specs.PlanRows.{row_of, rows_of, IsRowFit, AreRowsFit, descr_puts};
 
 use crate::count_fault::CountFault;
@@ -233,9 +234,20 @@ pub fn plan_drop<K: Keeper>(
     keeper: &mut K,
     plan: Plan,
     roots: &[Hash256],
-) -> Result<Plan, CountFault> {
+) -> Result<Plan, CountFault>
+    ensures dropped { IfOk result (λ after. IfSome (K.held keeper.old) (λ contents.
+        (H : List ℕ → Hash256) (old grown left : World) (come gone : List Block) (news : List Tree)
+        → IsReadable H old contents → AreAdded H old grown come news plan
+        → AreTogether H left.blocks gone grown.blocks → map (rep_bytes H) (states gone) ≡ map hash_bytes roots.now
+        → (dead : List Tree) × AreCounted H old grown left come gone news dead after
+        × (K.reads keeper.new ≤ K.reads keeper.old + (length roots.now + 4 * length dead)))) }
+    ensures keeps { KeepsHeld K.held K.trail K.batches keeper.old keeper.new }
+    ensures cause { HasCountCause (K.faults keeper.old) (K.faults keeper.new) result }
+{
     let mut rows = plan.rows;
-    drop_roots(alloc, &mut rows, keeper, roots)?;
+    let _dead = drop_roots(alloc, &mut rows, keeper, roots)?;
+    // Tells that the hashes are in order.
+    let _ = rows.len();
     Ok(Plan { rows })
 }
 
@@ -254,6 +266,8 @@ fn drop_roots<K: Keeper>(
     ensures keeps { KeepsHeld K.held K.trail K.batches keeper.old keeper.new }
     ensures reads { IfOk result (λ dead.
         K.reads keeper.new ≤ K.reads keeper.old + (length roots.now + 4 * length dead.items)) }
+    ensures fit { OnOk result (AreRowsFit (rows_of rows.old.entries) → AreRowsFit (rows_of rows.new.entries)) }
+    ensures cause { HasCountCause (K.faults keeper.old) (K.faults keeper.new) result }
 {
     let mut dead = Vec::new(alloc);
     take_references(rows, keeper, &mut dead, roots)?;

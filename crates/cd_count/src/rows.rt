@@ -9,6 +9,7 @@ ghost use Rattle.cd_count.specs.PlanSteps.{kid_bytes, first_row, with_last, IsTa
 ghost use Rattle.std.specs.BTreeMap as tree;
 ghost use Rattle.cd_cell.specs.Export.{hash_cmp};
 ghost use Rattle.cd_count.specs.declared.rows.Row.{Row};
+ghost use Rattle.cd_count.specs.PlanRows.{row_of, rows_of, IsRowFit, AreRowsFit};
 
 use crate::count_fault::CountFault;
 use cd_base::{Hash256, Memory};
@@ -30,12 +31,10 @@ pub struct Row {
 pub type Rows = BTreeMap<Hash256, Row>;
 
 /// The record under a hash. Bytes that are none count as nothing.
-pub fn read_record<K: Keeper>(
-    keeper: &mut K,
-    hash: &Hash256,
-) -> Result<Option<Record>, CountFault>
+pub fn read_record<K: Keeper>(keeper: &mut K, hash: &Hash256) -> Result<Option<Record>, CountFault>
     ensures value { IfOk result (λ found. IfSome (K.held keeper.old)
         (λ contents. found ≡ stored_in contents hash.now.0)) }
+    ensures fit { IfOk result (λ found. IfSome found (λ r. IsRowFit (row_of (first_row r)))) }
     ensures keeps { KeepsHeld K.held K.trail K.batches keeper.old keeper.new }
     ensures reads { K.reads keeper.new ≤ K.reads keeper.old + 1 }
     ensures cause { HasCountCause (K.faults keeper.old) (K.faults keeper.new) result }
@@ -47,7 +46,7 @@ pub fn read_record<K: Keeper>(
 }
 
 /// The row of a stored cell before anything changes.
-fn row_of(found: Record) -> Row
+fn first_row(found: Record) -> Row
     ensures { result ≡ first_row found }
 {
     Row {
@@ -64,7 +63,7 @@ pub fn list_cell<K: Keeper>(
     cell: &NewCell,
 ) -> Result<(bool, bool), CountFault> {
     let row = match read_record(keeper, &cell.hash)? {
-        Some(record) => row_of(record),
+        Some(record) => first_row(record),
         None => Row {
             stored: None,
             count: 0,
@@ -89,7 +88,7 @@ pub fn give_reference<K: Keeper>(
     let Some(record) = read_record(keeper, hash)? else {
         return Ok(());
     };
-    let mut row = row_of(record);
+    let mut row = first_row(record);
     raise(&mut row)?;
     rows.insert(*hash, row)?;
     Ok(())
@@ -115,6 +114,7 @@ pub fn take_reference<K: Keeper>(
         IsTaken (stored_in contents) rows.old dead.old.items hash.now.0 rows.new dead.new.items)) }
     ensures keeps { KeepsHeld K.held K.trail K.batches keeper.old keeper.new }
     ensures longer { OnOk result (length dead.old.items ≤ length dead.new.items) }
+    ensures fit { OnOk result (AreRowsFit (rows_of rows.old.entries) → AreRowsFit (rows_of rows.new.entries)) }
     ensures reads { K.reads keeper.new ≤ K.reads keeper.old + 1 }
     ensures cause { HasCountCause (K.faults keeper.old) (K.faults keeper.new) result }
 {
@@ -124,7 +124,7 @@ pub fn take_reference<K: Keeper>(
     let Some(record) = read_record(keeper, hash)? else {
         return Ok(());
     };
-    let mut row = row_of(record);
+    let mut row = first_row(record);
     lower(&mut row, dead, hash)?;
     rows.insert(*hash, row)?;
     Ok(())
@@ -141,6 +141,7 @@ pub fn take_references<K: Keeper>(
         AreTaken (stored_in contents) rows.old dead.old.items (map hash_bytes hashes.now) rows.new dead.new.items)) }
     ensures keeps { KeepsHeld K.held K.trail K.batches keeper.old keeper.new }
     ensures longer { OnOk result (length dead.old.items ≤ length dead.new.items) }
+    ensures fit { OnOk result (AreRowsFit (rows_of rows.old.entries) → AreRowsFit (rows_of rows.new.entries)) }
     ensures reads { K.reads keeper.new ≤ K.reads keeper.old + length hashes.now }
     ensures cause { HasCountCause (K.faults keeper.old) (K.faults keeper.new) result }
 {
@@ -162,6 +163,7 @@ pub fn take_kids<K: Keeper>(
         (kid_bytes row.face) rows.new dead.new.items)) }
     ensures keeps { KeepsHeld K.held K.trail K.batches keeper.old keeper.new }
     ensures longer { OnOk result (length dead.old.items ≤ length dead.new.items) }
+    ensures fit { OnOk result (AreRowsFit (rows_of rows.old.entries) → AreRowsFit (rows_of rows.new.entries)) }
     ensures reads { K.reads keeper.new ≤ K.reads keeper.old + 4 }
     ensures cause { HasCountCause (K.faults keeper.old) (K.faults keeper.new) result }
 {

@@ -38,6 +38,8 @@ loop-next-init g c =
           going-begun H contents old grown left come gone news readable rows0 added went roots rows dead named
           (subst (λ (ds : List Hash256). AreTaken (stored_in contents) rows0 ds (map hash_bytes roots) rows dead) c.new-dead.ensures.items taken));
       keeps = took.keeps;
+      fit = took.fit;
+      steady = took.cause.steady;
       reads = omega (arith, took.reads);
     }
 
@@ -64,6 +66,8 @@ loop-next-preserved g c =
         same_trail = step.keeps.same_trail ∙ so.keeps.same_trail;
         same_batches = step.keeps.same_batches ∙ so.keeps.same_batches;
       };
+      fit = λ fit. step.fit (so.fit fit);
+      steady = step.cause.steady ∙ so.steady;
       reads = omega (arith, step.reads, so.reads);
     }
 

@@ -5,7 +5,7 @@ use Rattle.cd_keeper.specs.Keeping.{KeepsHeld}
 use Rattle.cd_keeper.specs.Shown.{hash_bytes}
 use Rattle.cd_world.specs.World.{World, Block}
 use Rattle.cd_count.specs.Changes.{states, rep_bytes, AreTogether}
-use Rattle.cd_count.specs.PlanRows.{rows_of}
+use Rattle.cd_count.specs.PlanRows.{rows_of, AreRowsFit}
 use Rattle.cd_count.specs.PlanWorlds.{IsReadable, AreAdded}
 use Rattle.cd_count.proofs.Drops.{IsGoing}
 use Rattle.cd_count.proofs.plan.drop_roots.Given as goal
@@ -18,6 +18,8 @@ invariant-loop-next g l = record {
       → map (rep_bytes H) (states gone) ≡ map hash_bytes l.fn.roots
       → IsGoing H contents old grown left come gone news readable l.fn.rows added went l.rows l.dead.items l.next);
   keeps : KeepsHeld g.K.Keeper.held g.K.Keeper.trail g.K.Keeper.batches l.fn.keeper l.keeper;
+  fit : AreRowsFit (rows_of l.fn.rows.entries) → AreRowsFit (rows_of l.rows.entries);
+  steady : g.K.Keeper.faults l.keeper ≡ g.K.Keeper.faults l.fn.keeper;
   reads : g.K.Keeper.reads l.keeper ≤ g.K.Keeper.reads l.fn.keeper + (length l.fn.roots + 4 * l.next);
 }
 

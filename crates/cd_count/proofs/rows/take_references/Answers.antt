@@ -33,6 +33,7 @@ loop-hash-preserved g c =
         same_batches = step.keeps.same_batches ∙ so.keeps.same_batches;
       };
       steady = step.cause.steady ∙ so.steady;
+      fit = λ fit. step.fit (so.fit fit);
       longer = omega (arith, step.longer, so.longer);
       reads = omega (arith, step.reads, so.reads);
     }
