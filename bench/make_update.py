@@ -1,5 +1,5 @@
 #!/usr/bin/env python3
-"""Writes lines for `bag_faults --updates` to standard output: a state, and Merkle updates of it, as bags in hexadecimal.
+"""Writes lines for `inspect updates` to standard output: a state, and Merkle updates of it, as bags in hexadecimal.
 
     bench/make_update.py UPDATES [--number N] [--chain N]
 

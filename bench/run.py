@@ -17,8 +17,8 @@ import tempfile
 
 TOP = pathlib.Path(__file__).resolve().parent.parent
 WORK = [
-    ("read", "bag_faults", ["--raw"]),
-    ("export", "bag_faults", ["--raw", "--export"]),
+    ("read", "inspect", ["bags", "--raw"]),
+    ("export", "inspect", ["bags", "--raw", "--export"]),
     ("zero", "celldb", ["zero"]),
 ]
 

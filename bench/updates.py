@@ -1,11 +1,11 @@
 #!/usr/bin/env python3
-"""Measures how long the built program `bag_faults` takes to prepare a Merkle update.
+"""Measures how long the built program `inspect` takes to prepare a Merkle update.
 
     bench/updates.py [--updates N] [--times N] [--counted N]
 
-At the top of the repository, after `rt ci` or `rt run` left the program in crates/bag_faults/out. The lines are those of
-bench/make_update.py: updates of 191 shown cells over a state of 1,023. Preparing is what `--updates` takes beyond the
-program without words, which reads the same lines and works out every hash in them; the least of N runs is taken of each
+At the top of the repository, after `rt ci` or `rt run` left the program in crates/inspect/out. The lines are those of
+bench/make_update.py: updates of 191 shown cells over a state of 1,023. Preparing is what `updates` takes beyond `bags`,
+which reads the same lines and works out every hash in them; the least of N runs is taken of each
 (7 where it isn't given), since what else the machine does only adds. Where valgrind is there, the instructions of both
 are counted over fewer updates. It is no part of the gate.
 """
@@ -19,9 +19,9 @@ import sys
 import tempfile
 
 TOP = pathlib.Path(__file__).resolve().parent.parent
-PROGRAM = str(TOP / "crates/bag_faults/out/bag_faults")
+PROGRAM = str(TOP / "crates/inspect/out/inspect")
 # The words of both runs.
-READ, PREPARE = [], ["--updates"]
+READ, PREPARE = ["bags"], ["updates"]
 
 
 def make(updates):

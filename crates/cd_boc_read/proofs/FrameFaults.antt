@@ -8,15 +8,17 @@ use Rattle.cd_base.specs.Numbers.{from_big, from_little}
 use Rattle.cd_base.specs.Checksum.{crc32c}
 use Rattle.cd_base.specs.declared.hash.Hash256.{Hash256}
 use Rattle.cd_boc_write.specs.declared.shape.Shape.{Shape}
+use Rattle.cd_boc_write.specs.Frames.{Frame}
+use Rattle.cd_boc_write.specs.CellTexts.{Text}
 use Rattle.cd_boc_read.specs.declared.bag_fault.BagFault.{BagFault}
 use Rattle.cd_boc_read.specs.declared.bag_fault.BagFault.TheVariants.{Magic, Flags, Sizes, Cut, Roots, Absent, Limit, RootIndex, Extra, Crc}
 use Rattle.cd_boc_read.specs.declared.counts.Counts.{Counts}
-use Rattle.cd_boc_read.specs.Reading.{numbers_in, numbers_at, shape_at, are_flags, are_sizes, counts_at, are_cells, roots_at, index_len, end_at, FrameParts, frame_at}
+use Rattle.cd_boc_read.specs.Reading.{numbers_in, numbers_at, shape_of, shape_at, are_flags, are_sizes, counts_at, are_cells, roots_at, index_len, end_at, FrameParts, texts_at, frame_of, frame_at, bag_at}
 use Rattle.cd_base.specs.Reading.{◌>>=◌, require, part_at, byte_at, number_at}
 use Rattle.cd_boc_read.specs.Places.{stated_root, number_in, stated_shape, stated_cells, stated_roots, stated_total, roots_start, index_start, data_start, data_end, bag_end, stated_data}
 use Rattle.cd_boc_read.specs.FaultRows.{IsShapeRight, AreRootsCounted, AreCountsRight, IsHeaderRight, Holds}
 use Rattle.cd_base.proofs.ReadingLaws.{by_test, ok_is, by_ok}
-use Rattle.cd_boc_read.proofs.PlaceLaws.{Stands, AreStated, Stands-start, Stands-at, length-standing, part_found, byte_found, number_found, shape_found, counts_found}
+use Rattle.cd_boc_read.proofs.PlaceLaws.{Stands, Stands-start, Stands-at, length-standing, part_found, byte_found, number_found}
 use Rattle.cd_boc_read.proofs.NumberFields.{both, length-numbers_in}
 use Rattle.cd_boc_read.proofs.HeaderLaws.{cells_below}
 
@@ -108,9 +110,15 @@ shape_fails H bytes e is =
     (λ wrong same. subst (Holds H bytes) same (record { before = (sym f0.0 ∙ eqb-true magic.0 0xb5ee9c72 is_magic, ap are_flags (sym f1.0) ∙ known); there = omega (arith, f2.1.within); size_is = ap (λ n. n % 8) f1.0; off_bytes_is = f2.0; wrong = wrong_sizes (flags.0 % 8) off_bytes.0 wrong })) (λ sized k5.
     absurd cc))))))
 
-pub shape_right : (bytes : List ℕ) (x : Shape × List ℕ) → shape_at (Cut (length bytes)) bytes ≡ Ok x → IsShapeRight bytes
-unfolding shape_at
-shape_right bytes x e =
+-- what the first six bytes give that are read
+pub record IsShapeFound (bytes : List ℕ) (x : Shape × List ℕ) : Type 0 where
+  pub is : x.0 ≡ stated_shape bytes
+  pub rest : Stands bytes 6 x.1
+  pub right : IsShapeRight bytes
+
+pub shape_found : (bytes : List ℕ) (x : Shape × List ℕ) → shape_at (Cut (length bytes)) bytes ≡ Ok x → IsShapeFound bytes x
+unfolding shape_at stated_shape
+shape_found bytes x e =
     let cut = Cut (length bytes) in
     by_ok (number_at cut 4 bytes) _ x e (λ magic e0 k0.
     by_test (eqb magic.0 0xb5ee9c72) (Magic magic.0) _ x k0 (λ is_magic k1.
@@ -121,11 +129,15 @@ shape_right bytes x e =
     let f0 = number_found cut bytes 0 bytes (Stands-start bytes) 4 magic e0 in
     let f1 = byte_found cut bytes 4 magic.1 f0.1 flags e2 in
     let f2 = byte_found cut bytes 5 flags.1 f1.1 off_bytes e3 in
-    record {
-      magic = sym f0.0 ∙ eqb-true magic.0 0xb5ee9c72 is_magic;
-      flags = ap are_flags (sym f1.0) ∙ known;
-      sizes = ap₂ (λ m n. are_sizes (m % 8) n) (sym f1.0) (sym f2.0) ∙ sized;
-    }))))))
+    subst (IsShapeFound bytes) (ok_is (shape_of flags.0 off_bytes.0, off_bytes.1) x k5) (record {
+      is = ap₂ shape_of f1.0 f2.0;
+      rest = f2.1;
+      right = record {
+        magic = sym f0.0 ∙ eqb-true magic.0 0xb5ee9c72 is_magic;
+        flags = ap are_flags (sym f1.0) ∙ known;
+        sizes = ap₂ (λ m n. are_sizes (m % 8) n) (sym f1.0) (sym f2.0) ∙ sized;
+      };
+    })))))))
 
 roots_counted : (roots cells : ℕ) → (leb 1 roots && leb roots cells) ≡ true → (1 ≤ roots) × (roots ≤ cells)
 roots_counted roots cells rooted = let r = both (leb 1 roots) (leb roots cells) rooted in (leb-true 1 roots r.0, leb-true roots cells r.1)
@@ -164,9 +176,23 @@ counts_fail H bytes rest e shape at is =
     (λ over same. subst (Holds H bytes) same (record { before = (shape, counted, sym f2.0 ∙ eqb-true absent.0 0 none); there = there; stated = f0.0; over = over_limit cells.0 over })) (λ few k6.
     absurd cc)))))))
 
-pub counts_right : (bytes rest : List ℕ) (x : Counts × List ℕ) → IsShapeRight bytes → Stands bytes 6 rest → counts_at (Cut (length bytes)) (stated_shape bytes) rest ≡ Ok x → AreCountsRight bytes
+-- the counts of the header, as they stand at their places
+abbrev pub counts_stated : List ℕ → Counts
+counts_stated bytes = record { cells = stated_cells bytes; roots = stated_roots bytes; total = stated_total bytes }
+
+counts_are : {c c' r r' t t' : ℕ} → c ≡ c' → r ≡ r' → t ≡ t' → ◌≡◌ {A = Counts} (record { cells = c; roots = r; total = t }) (record { cells = c'; roots = r'; total = t' })
+counts_are {c} {c'} {r} {r'} {t} {t'} cells roots total =
+    ap (λ n. record { cells = n; roots = r; total = t }) cells ∙ ap (λ n. record { cells = c'; roots = n; total = t }) roots ∙ ap (λ n. record { cells = c'; roots = r'; total = n }) total
+
+-- what the numbers behind them give
+pub record AreCountsFound (bytes : List ℕ) (x : Counts × List ℕ) : Type 0 where
+  pub are : x.0 ≡ counts_stated bytes
+  pub rest : Stands bytes (roots_start bytes) x.1
+  pub right : AreCountsRight bytes
+
+pub counts_found : (bytes rest : List ℕ) (x : Counts × List ℕ) → IsShapeRight bytes → Stands bytes 6 rest → counts_at (Cut (length bytes)) (stated_shape bytes) rest ≡ Ok x → AreCountsFound bytes x
 unfolding counts_at
-counts_right bytes rest x shape at e =
+counts_found bytes rest x shape at e =
     let cut = Cut (length bytes) in
     let s = stated_shape bytes in
     by_ok (number_at cut s.size rest) _ x e (λ cells e0 k0.
@@ -179,12 +205,17 @@ counts_right bytes rest x shape at e =
     let f0 = number_found cut bytes 6 rest at s.size cells e0 in
     let f1 = number_found cut bytes (6 + s.size) cells.1 f0.1 s.size roots e1 in
     let f2 = number_found cut bytes (6 + 2 * s.size) roots.1 (Stands-at bytes (6 + s.size + s.size) (6 + 2 * s.size) roots.1 (omega arith) f1.1) s.size absent e2 in
-    record {
-      shape = shape;
-      rooted = roots_as f1.0 f0.0 (roots_counted roots.0 cells.0 rooted);
-      none = sym f2.0 ∙ eqb-true absent.0 0 none;
-      few = subst (λ n. n ≤ 1048576) f0.0 (leb-true cells.0 1048576 few);
-    })))))))
+    let f3 = number_found cut bytes (6 + 3 * s.size) absent.1 (Stands-at bytes (6 + 2 * s.size + s.size) (6 + 3 * s.size) absent.1 (omega arith) f2.1) s.off_bytes total e3 in
+    subst (AreCountsFound bytes) (ok_is (record { cells = cells.0; roots = roots.0; total = total.0 }, total.1) x k6) (record {
+      are = counts_are f0.0 f1.0 f3.0;
+      rest = f3.1;
+      right = record {
+        shape = shape;
+        rooted = roots_as f1.0 f0.0 (roots_counted roots.0 cells.0 rooted);
+        none = sym f2.0 ∙ eqb-true absent.0 0 none;
+        few = subst (λ n. n ≤ 1048576) f0.0 (leb-true cells.0 1048576 few);
+      };
+    }))))))))
 
 -- ---- the roots
 
@@ -338,16 +369,6 @@ module _ (H : List ℕ → Hash256) (bytes rest : List ℕ) (header : IsHeaderRi
 
 -- ---- the frame
 
--- the counts of the header, as they stand at their places
-abbrev pub counts_stated : List ℕ → Counts
-counts_stated bytes = record { cells = stated_cells bytes; roots = stated_roots bytes; total = stated_total bytes }
-
-pub counts_are : (bytes : List ℕ) (counts : Counts) → AreStated bytes (stated_shape bytes) counts → counts ≡ counts_stated bytes
-counts_are bytes counts s =
-    ap (λ n. record { cells = n; roots = counts.roots; total = counts.total }) s.cells
-    ∙ ap (λ n. record { cells = stated_cells bytes; roots = n; total = counts.total }) s.roots
-    ∙ ap (λ n. record { cells = stated_cells bytes; roots = stated_roots bytes; total = n }) s.total
-
 -- reading behind the shape, and behind the counts
 abbrev behind_counts : List ℕ → Counts → List ℕ → Result FrameParts BagFault
 behind_counts bytes counts rest = do
@@ -389,11 +410,11 @@ unfolding frame_at
 frame_fails H bytes e is =
     let cut = Cut (length bytes) in
     by_err (shape_at cut bytes) _ e is (λ wrong. shape_fails H bytes e wrong) (λ shape e0 k0.
-    let f0 = shape_found cut bytes shape e0 in
-    let k1 : behind_shape bytes (stated_shape bytes) shape.1 ≡ Err e = subst (λ (s : Shape). behind_shape bytes s shape.1 ≡ Err e) f0.0 k0 in
-    by_err (counts_at cut (stated_shape bytes) shape.1) _ e k1 (λ wrong. counts_fail H bytes shape.1 e (shape_right bytes shape e0) f0.1 wrong) (λ counts e1 k2.
-    let f1 = counts_found cut (stated_shape bytes) bytes shape.1 counts f0.1 e1 in
-    behind_fails H bytes counts.1 e (counts_right bytes shape.1 counts (shape_right bytes shape e0) f0.1 e1) f1.1 (subst (λ (c : Counts). behind_counts bytes c counts.1 ≡ Err e) (counts_are bytes counts.0 f1.0) k2)))
+    let f0 = shape_found bytes shape e0 in
+    let k1 : behind_shape bytes (stated_shape bytes) shape.1 ≡ Err e = subst (λ (s : Shape). behind_shape bytes s shape.1 ≡ Err e) f0.is k0 in
+    by_err (counts_at cut (stated_shape bytes) shape.1) _ e k1 (λ wrong. counts_fail H bytes shape.1 e f0.right f0.rest wrong) (λ counts e1 k2.
+    let f1 = counts_found bytes shape.1 counts f0.right f0.rest e1 in
+    behind_fails H bytes counts.1 e f1.right f1.rest (subst (λ (c : Counts). behind_counts bytes c counts.1 ≡ Err e) f1.are k2)))
 
 -- the parts of a frame that was read are those at their places
 pub record IsFrameFound (bytes : List ℕ) (p : FrameParts) : Type 0 where
@@ -424,8 +445,16 @@ unfolding frame_at
 frame_found bytes p is =
     let cut = Cut (length bytes) in
     by_ok (shape_at cut bytes) _ p is (λ shape e0 k0.
-    let f0 = shape_found cut bytes shape e0 in
-    let k1 : behind_shape bytes (stated_shape bytes) shape.1 ≡ Ok p = subst (λ (s : Shape). behind_shape bytes s shape.1 ≡ Ok p) f0.0 k0 in
+    let f0 = shape_found bytes shape e0 in
+    let k1 : behind_shape bytes (stated_shape bytes) shape.1 ≡ Ok p = subst (λ (s : Shape). behind_shape bytes s shape.1 ≡ Ok p) f0.is k0 in
     by_ok (counts_at cut (stated_shape bytes) shape.1) _ p k1 (λ counts e1 k2.
-    let f1 = counts_found cut (stated_shape bytes) bytes shape.1 counts f0.1 e1 in
-    behind_found bytes counts.1 p (counts_right bytes shape.1 counts (shape_right bytes shape e0) f0.1 e1) f1.1 (subst (λ (c : Counts). behind_counts bytes c counts.1 ≡ Ok p) (counts_are bytes counts.0 f1.0) k2)))
+    let f1 = counts_found bytes shape.1 counts f0.right f0.rest e1 in
+    behind_found bytes counts.1 p f1.right f1.rest (subst (λ (c : Counts). behind_counts bytes c counts.1 ≡ Ok p) f1.are k2)))
+
+-- the number of cells is the one that the header states
+pub bag_counted : (bytes : List ℕ) (f : Frame) (ts : List Text) → bag_at bytes ≡ Ok (f, ts) → f.cells ≡ stated_cells bytes
+unfolding bag_at
+bag_counted bytes f ts e =
+    by_ok (frame_at bytes) _ (f, ts) e (λ p e0 k0.
+    by_ok (texts_at p.shape p.cells (length p.cell_data) p.cells 0 p.index p.cell_data) _ (f, ts) k0 (λ texts e1 k1.
+    subst (λ (y : Frame × List Text). y.0.cells ≡ stated_cells bytes) (ok_is (frame_of p, texts) (f, ts) k1) (let found = frame_found bytes p e0 in found.cells)))

@@ -6,3 +6,7 @@ pub mod NewLists
 pub mod GraftPlaces
 pub mod OwnFaces
 pub mod UpdateLaws
+pub mod MergedFaces
+pub mod SplitFaults
+pub mod GivenCells
+pub mod MergedTrees

@@ -6,7 +6,9 @@ use Rattle.std.specs.Option.{unwrap_or}
 use Rattle.std.specs.Int.{bit_at}
 use Rattle.std.proofs.lemmas.Nat.Bits.{bit_at-zero}
 use Rattle.std.proofs.lemmas.List.{length-map, get_or_default}
-use Rattle.std.proofs.lemmas.List.Elements.{Contains-get_or}
+use Rattle.std.proofs.lemmas.List.Elements.{All-contains, Contains-get_or}
+use Rattle.std.proofs.lemmas.Bool.{and_parts, and_from}
+use Rattle.std.specs.List.{list_any}
 use Rattle.cd_base.specs.declared.hash.Hash256.{Hash256}
 use Rattle.cd_cell.specs.declared.info.ChildInfo.{ChildInfo}
 use Rattle.cd_cell.specs.declared.kind.Kind.TheVariants.{Update}
@@ -20,8 +22,8 @@ use Rattle.cd_cell.specs.GoodFace.{IsGoodFace}
 use Rattle.cd_cell.specs.Tree.{Tree, cell, children, info_of, face_of, kind_of, mask_of, hash_at, IsWellFormed}
 use Rattle.cd_cell.specs.Unfolding.{no_tree}
 use Rattle.cd_cell.specs.Bags.{no_face}
-use Rattle.cd_cell.specs.Equality.{same_face, same_face-Decides}
-use Rattle.cd_cell.specs.Updates.{half_of, is_hidden, some_unless}
+use Rattle.cd_cell.specs.Equality.{same_face, same_face-Decides, same_info, same_info-Decides}
+use Rattle.cd_cell.specs.Updates.{half_of, is_hidden, some_unless, stands_for}
 use Rattle.cd_cell.proofs.Subtrees.{Contains-cases, Contains-nil, Contains-first, IsGoodFace-face_of, info_of-face_of, kids-face_of, well_formed-child}
 use Rattle.cd_cell.proofs.Heights.{clear-bit}
 use Rattle.cd_cell.proofs.AppliedUpdates.{find-Some}
@@ -29,10 +31,12 @@ use Rattle.cd_cell.specs.Clashes.{clash_of}
 use Rattle.cd_cell.proofs.ClashLaws.{clear-clash_of}
 use Rattle.cd_update.specs.EachOnce.{first_of}
 use Rattle.cd_update.specs.Places.{Place, places}
-use Rattle.cd_update.specs.Pairing.{IsOldInfo}
+use Rattle.cd_update.specs.Pairing.{IsOldInfo, upto}
+use Rattle.cd_update.specs.Hides.{hides_at, hides}
+use Rattle.cd_update.proofs.OldInfos.{stands-as, known-as}
 use Rattle.cd_update.specs.Grafts.{known_for, grafted_info, grafted_face, own_face_at, own_faces, foreign_at, foreign_hash}
 use Rattle.cd_update.proofs.EachOnceLaws.{Contains-flat_map, Contains-flat_map_cases, Contains-each_once, Contains-each_once_cases}
-use Rattle.cd_cell.proofs.ListTests.{true_or_false}
+use Rattle.cd_cell.proofs.ListTests.{true_or_false, list_any-Contains, Contains-list_any}
 use Rattle.cd_update.proofs.GraftInfos.{IsReady, all-ready, face-good, info-visible, graft-is, or_parts}
 use Rattle.cd_update.proofs.HalfVisits.{IsUpdateTree}
 use Rattle.cd_update.proofs.OldTrees.{mask-new, kid-half}
@@ -73,7 +77,7 @@ module _ {H : List ℕ → Hash256} {u : Tree} (update : IsUpdateTree H u) (know
   abbrev start : Place
   start = record { tree = half; depth = 0 }
 
-  abbrev root : ChildInfo
+  abbrev pub root : ChildInfo
   root = grafted_info H known half 0
 
   fit : IsFaceFit (face_of H u)
@@ -143,15 +147,19 @@ module _ {H : List ℕ → Hash256} {u : Tree} (update : IsUpdateTree H u) (know
     info-of : (p : Place) → is_visible H known p → info_at p ≡ info_of_face H (shown_at p)
     info-of p visible = info-visible H known old p.tree p.depth visible
 
+    -- what a place shows is shown by the root, or is a kid of an own face
+    pub parent-at : (q : Place) → Contains (places H half 0) q → (info_at q ≡ root) ⊎ ((g : FaceView) × Contains faces g × Contains g.kids (info_at q))
+    parent-at q in' =
+        ⊎_elim
+        (λ same. inl (ap info_at (sym same)))
+        (λ parent. inr (shown_at parent.0, face-to parent.0 parent.1 parent.2, parent.3))
+        (place-parent H known half 0 q in')
+
     pub parents : (f : FaceView) → Contains faces f → HasParent H faces root f
     parents f h =
         let from = face-from f h in
-        let p = from.0 in
-        let shows : info_of_face H f ≡ info_at p = ap (info_of_face H) (sym from.3) ∙ sym (info-of p from.2) in
-        ⊎_elim
-        (λ same. inl (shows ∙ ap info_at (sym same)))
-        (λ parent. inr (shown_at parent.0, face-to parent.0 parent.1 parent.2, subst (Contains (shown_at parent.0).kids) (sym shows) parent.3))
-        (place-parent H known half 0 p from.1)
+        let shows : info_of_face H f ≡ info_at from.0 = ap (info_of_face H) (sym from.3) ∙ sym (info-of from.0 from.2) in
+        subst (λ k. (k ≡ root) ⊎ ((g : FaceView) × Contains faces g × Contains g.kids k)) (sym shows) (parent-at from.0 from.1)
 
     known-found : (o : Option ChildInfo) (hash : Hash256) (k : ChildInfo) → ((x : ChildInfo) → o ≡ Some x → Contains known x) → some_unless (is_some o) hash ≡ None → Contains known (unwrap_or o k)
     known-found None hash k found e = absurd (cc e)
@@ -169,22 +177,63 @@ module _ {H : List ℕ → Hash256} {u : Tree} (update : IsUpdateTree H u) (know
             subst (Contains known) (sym (ap (λ b. if b then unwrap_or found (info_of H no_tree) else info_of_face H (grafted_face H known n d)) e))
             (known-found found (hash_at H n d) (info_of H no_tree) (λ x is. (find-Some _ known x is).1) told)
 
+    found-upto : (o : Option ChildInfo) (there : Bool) (x k : ChildInfo) (hash : Hash256) → o ≡ (if there then Some x else None) → some_unless (is_some o) hash ≡ None → unwrap_or o k ≡ x
+    found-upto o true x k hash is told = ap (λ p. unwrap_or p k) is
+    found-upto o false x k hash is told = absurd (cc (sym told ∙ ap (λ p. some_unless (is_some p) hash) is))
+
+    -- a hidden cell gives way to what it shows up to its depth
+    hidden-upto : (q : Place) → IsReady H known old q → is_hidden q.depth (face_of H q.tree) ≡ true → info_at q ≡ upto q.depth (info_of H q.tree)
+    hidden-upto q ready e = go q.tree q.depth ready.depth e ready.none
+      where
+        go : (n : Tree) (d : ℕ) → d ≤ 3 → is_hidden d (face_of H n) ≡ true → first_of (foreign_at H known) (places H n d) ≡ None → grafted_info H known n d ≡ upto d (info_of H n)
+        go (cell exotic bits ns) d top e none =
+            let n = cell exotic bits ns in
+            let found = known_for known (info_of H n) d in
+            let here : (if is_hidden d (face_of H n) then some_unless (is_some found) (hash_at H n d) else None) ≡ None = (or_parts _ _ none).0 in
+            let told : some_unless (is_some found) (hash_at H n d) ≡ None = sym (ap (λ b. if b then some_unless (is_some found) (hash_at H n d) else None) e) ∙ here in
+            ap (λ b. if b then unwrap_or found (info_of H no_tree) else info_of_face H (grafted_face H known n d)) e
+            ∙ found-upto found (list_any (same_info (upto d (info_of H n))) known) (upto d (info_of H n)) (info_of H no_tree) (hash_at H n d) (known-as (info_of H n) d top known old) told
+
+    -- a hidden cell is one that the known cell in its place stands for
+    hidden-hides : (q : Place) → Contains (places H half 0) q → is_hidden q.depth (face_of H q.tree) ≡ true → hides H (info_at q) half ≡ true
+    hidden-hides q in' e =
+        let ready = ready-at q in' in
+        let k = info_at q in
+        let is_old : IsOldInfo k = All-contains IsOldInfo known k old (hidden-known q ready e) in
+        let n = info_of H q.tree in
+        let stands : stands_for n q.depth k ≡ true = stands-as n q.depth ready.depth k is_old ∙ (same_info-Decides (upto q.depth n) k).1 (sym (hidden-upto q ready e)) in
+        Contains-list_any (hides_at H k) (places H half 0) q in' (and_from (is_hidden q.depth (face_of H q.tree)) (stands_for n q.depth k) e stands)
+
+    -- and what an old cell shows that some hidden one is, is shown in a place
+    pub hides-place : (k : ChildInfo) → IsOldInfo k → hides H k half ≡ true → (q : Place) × Contains (places H half 0) q × (info_at q ≡ k)
+    hides-place k is_old e =
+        let found = list_any-Contains (hides_at H k) (places H half 0) e in
+        let q = found.0 in
+        let n = info_of H q.tree in
+        let both = and_parts (is_hidden q.depth (face_of H q.tree)) (stands_for n q.depth k) found.2 in
+        let ready = ready-at q found.1 in
+        (q, found.1, hidden-upto q ready both.0 ∙ (same_info-Decides (upto q.depth n) k).0 (sym (stands-as n q.depth ready.depth k is_old) ∙ both.1))
+
+    -- what is known and stands for a hidden cell
+    abbrev pub WasHidden : ChildInfo → Type 0
+    WasHidden k = Contains known k × (hides H k half ≡ true)
+
     -- what is shown in a place is that of an own cell or known
-    place-shown : (q : Place) → Contains (places H half 0) q → ((f : FaceView) × Contains faces f × (info_of_face H f ≡ info_at q)) ⊎ Contains known (info_at q)
+    place-shown : (q : Place) → Contains (places H half 0) q → ((f : FaceView) × Contains faces f × (info_of_face H f ≡ info_at q)) ⊎ WasHidden (info_at q)
     place-shown q in' =
         let hidden = is_hidden q.depth (face_of H q.tree) in
         ⊎_elim
-        (λ e. inr (hidden-known q (ready-at q in') e))
+        (λ e. inr (hidden-known q (ready-at q in') e, hidden-hides q in' e))
         (λ e. inl (shown_at q, face-to q in' e, sym (info-of q e)))
         (true_or_false hidden)
 
-    pub kids-shown : (f : FaceView) → Contains faces f → (k : ChildInfo) → Contains f.kids k → ((g : FaceView) × Contains faces g × (info_of_face H g ≡ k)) ⊎ Contains known k
+    pub kids-shown : (f : FaceView) → Contains faces f → (k : ChildInfo) → Contains f.kids k → ((g : FaceView) × Contains faces g × (info_of_face H g ≡ k)) ⊎ WasHidden k
     kids-shown f h k kid =
         let from = face-from f h in
         let place = kid-place H known half 0 from.0 k from.1 from.2 (subst (λ (x : FaceView). Contains x.kids k) (sym from.3) kid) in
-        subst (λ x. ((g : FaceView) × Contains faces g × (info_of_face H g ≡ x)) ⊎ Contains known x) place.2 (place-shown place.0 place.1)
+        subst (λ x. ((g : FaceView) × Contains faces g × (info_of_face H g ≡ x)) ⊎ WasHidden x) place.2 (place-shown place.0 place.1)
 
-    pub root-shown : ((g : FaceView) × Contains faces g × (info_of_face H g ≡ root)) ⊎ Contains known root
+    pub root-shown : ((g : FaceView) × Contains faces g × (info_of_face H g ≡ root)) ⊎ WasHidden root
     root-shown = place-shown start (place-itself H known half 0)
 
     -- the own cells in their order are what a prepared value keeps, below the grafted root

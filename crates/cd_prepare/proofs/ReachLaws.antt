@@ -111,8 +111,9 @@ module _ (H : List ℕ → Hash256) (cells : List FaceView) (refs : List (List �
         here = λ p low. absurd (omega arith);
       }
 
-  pub IsWalked-next : (done part : ℕ) (marks : List Bool) (keys : List EntryKey) → length (face_at cells done).kids ≤ part → IsWalked done part marks keys → IsWalked (done + 1) 0 marks keys
-  IsWalked-next done part marks keys all walked =
+  -- an entry is past, where it isn't marked or all that it names is
+  IsWalked-past : (done part : ℕ) (marks : List Bool) (keys : List EntryKey) → ((p : ℕ) → is_marked marks done ≡ true → p < length (face_at cells done).kids → is_marked marks (ref_at refs done p) ≡ true) → IsWalked done part marks keys → IsWalked (done + 1) 0 marks keys
+  IsWalked-past done part marks keys named walked =
       record {
         long = walked.long;
         rooted = walked.rooted;
@@ -127,32 +128,17 @@ module _ (H : List ℕ → Hash256) (cells : List FaceView) (refs : List (List �
             (λ before. walked.closed k p before h in-kids)
             (λ past.
             let same : k ≡ done = omega arith in
-            let in-done : p < length (face_at cells done).kids = subst (λ n. p < length (face_at cells n).kids) same in-kids in
-            subst (λ n. is_marked marks (ref_at refs n p) ≡ true) (sym same) (walked.here p (omega (arith, in-done))))
+            subst (λ n. is_marked marks (ref_at refs n p) ≡ true) (sym same)
+            (named p (subst (λ n. is_marked marks n ≡ true) same h) (subst (λ n. p < length (face_at cells n).kids) same in-kids)))
             (cases_lt k done);
         here = λ p low. absurd (omega arith);
       }
 
+  pub IsWalked-next : (done part : ℕ) (marks : List Bool) (keys : List EntryKey) → length (face_at cells done).kids ≤ part → IsWalked done part marks keys → IsWalked (done + 1) 0 marks keys
+  IsWalked-next done part marks keys all walked = IsWalked-past done part marks keys (λ p h in-kids. walked.here p (omega (arith, in-kids))) walked
+
   pub IsWalked-skip : (done : ℕ) (marks : List Bool) (keys : List EntryKey) → is_marked marks done ≡ false → IsWalked done 0 marks keys → IsWalked (done + 1) 0 marks keys
-  IsWalked-skip done marks keys none walked =
-      record {
-        long = walked.long;
-        rooted = walked.rooted;
-        after = walked.after;
-        held = walked.held;
-        keyed = walked.keyed;
-        marked = walked.marked;
-        below = walked.below;
-        closed =
-            λ k p low h in-kids.
-            ⊎_elim
-            (λ before. walked.closed k p before h in-kids)
-            (λ past.
-            let same : k ≡ done = omega arith in
-            absurd (true≢false (sym h ∙ ap (is_marked marks) same ∙ none)))
-            (cases_lt k done);
-        here = λ p low. absurd (omega arith);
-      }
+  IsWalked-skip done marks keys none walked = IsWalked-past done 0 marks keys (λ p h in-kids. absurd (true≢false (sym h ∙ none))) walked
 
   module _ (roots : List ℕ) (bag : IsBag H cells refs roots) where
     -- the numbers of an entry's children

@@ -26,15 +26,15 @@ use Rattle.cd_update.specs.declared.pair_fault.PairFault.TheVariants as pair
 use Rattle.cd_update.specs.declared.graft_fault.GraftFault.{GraftFault}
 use Rattle.cd_update.specs.declared.graft_fault.GraftFault.TheVariants as graft
 use Rattle.cd_update.specs.EachOnce.{each_once}
-use Rattle.cd_update.specs.Grafts.{own_faces, foreign_hash}
+use Rattle.cd_update.specs.Grafts.{foreign_hash}
 use Rattle.cd_update.specs.Answers.{refusal_of_pairing}
-use Rattle.cd_update.specs.Pairing.{met_infos, tree_refusal, pair_refusal}
+use Rattle.cd_update.specs.Pairing.{met_infos, tree_refusal}
 use Rattle.cd_update.proofs.EachOnceLaws.{Contains-each_once, Contains-each_once_cases}
 use Rattle.cd_prepare.specs.declared.prepare_fault.PrepareFault.{PrepareFault}
 use Rattle.cd_prepare.specs.declared.prepare_fault.PrepareFault.TheVariants.{Foreign, Memory, NewClash}
 use Rattle.cd_prepare.specs.UpdateFaults.{of_pair, of_graft}
 use Rattle.cd_prepare.specs.NewCells.{new_cell_with, AreListed}
-use Rattle.cd_prepare.specs.Applied.{fault_of_refusal, clash_fault, grafted_faces, faces_fault, new_faces, update_fault}
+use Rattle.cd_prepare.specs.Applied.{fault_of_refusal, clash_fault, fault_by, fault_over}
 use Rattle.cd_prepare.proofs.NewLists.{AreClear, listing_cmp-total}
 
 -- ---- which fault comes
@@ -65,95 +65,105 @@ foreign-mapped : (o : Option Hash256) (later : Option PrepareFault) (fault : Pre
 foreign-mapped None later fault e = absurd (cc e)
 foreign-mapped (Some hash) later fault e = e
 
+-- what an old cell shows is known
+pub old-shown : (H : List ℕ → Hash256) (cells : List NewCell) (olds : List Tree) (s : Tree) → Contains (old_cells olds) s → Contains (known_infos H cells olds) (info_of H s)
+old-shown H cells olds s h =
+    Contains-append_right (map (info_of_new H) cells) (map (info_of H) (old_cells olds)) (info_of H s) (Contains-mapped (info_of H) (old_cells olds) s h)
+
 module _ (H : List ℕ → Hash256) (u t : Tree) where
   regrouped : refusal_of H u t ≡ option_or (tree_refusal H u t) (graft_refusal H u t)
   regrouped = or-regrouped (hash_refusal H u t) (depth_refusal H u t) (half_refusal H u t) (graft_refusal H u t)
-
-  pub answer-pair : (fault : PairFault) (answer : PrepareFault) → answer ≡ of_pair fault → (fault ≡ pair.Memory) ⊎ (refusal_of_pairing fault ≡ tree_refusal H u t) → (answer ≡ Memory) ⊎ (update_fault H u t ≡ Some answer)
-  answer-pair fault answer is h =
-      subst (λ a. (a ≡ Memory) ⊎ (update_fault H u t ≡ Some a)) (sym is)
-      (⊎_elim
-      inl
-      (λ e.
-      inr
-      (ap (λ o. option_or (option_map fault_of_refusal o) (clash_fault H (new_faces H u t))) regrouped
-      ∙ first-mapped (tree_refusal H u t) (graft_refusal H u t) (clash_fault H (new_faces H u t)) (of_pair fault) e))
-      (pair-fault fault (tree_refusal H u t) h))
 
   module _ (paired : tree_refusal H u t ≡ None) where
     refused : refusal_of H u t ≡ graft_refusal H u t
     refused = regrouped ∙ ap (λ o. option_or o (graft_refusal H u t)) paired
 
-    pub answer-graft : (fault : GraftFault) (answer : PrepareFault) → answer ≡ of_graft fault → (fault ≡ graft.Memory) ⊎ (option_map graft.Foreign (first_foreign H (found_in H (known_of H u t)) (half_of u 1) 0) ≡ Some fault) → (answer ≡ Memory) ⊎ (update_fault H u t ≡ Some answer)
-    answer-graft fault answer is h =
-        let hash = first_foreign H (found_in H (known_of H u t)) (half_of u 1) 0 in
-        subst (λ a. (a ≡ Memory) ⊎ (update_fault H u t ≡ Some a)) (sym is)
-        (⊎_elim
-        inl
-        (λ e. inr (ap (λ o. option_or (option_map fault_of_refusal o) (clash_fault H (new_faces H u t))) refused ∙ foreign-mapped hash (clash_fault H (new_faces H u t)) (of_graft fault) e))
-        (graft-fault hash fault h))
-
     module _ (none : first_foreign H (found_in H (known_of H u t)) (half_of u 1) 0 ≡ None) where
       pub no-refusal : refusal_of H u t ≡ None
       no-refusal = refused ∙ ap (option_map (λ x. foreign x)) none
-
-      fault-is : update_fault H u t ≡ clash_fault H (new_faces H u t)
-      fault-is = ap (λ o. option_or (option_map fault_of_refusal o) (clash_fault H (new_faces H u t))) no-refusal
-
-      module _ (faces : List FaceView) (are : faces ≡ new_faces H u t) where
-        pub answer-none : clash_fault H faces ≡ None → update_fault H u t ≡ None
-        answer-none e = fault-is ∙ ap (clash_fault H) (sym are) ∙ e
-
-        pub answer-clash : (fault : PrepareFault) → (fault ≡ Memory) ⊎ (clash_fault H faces ≡ Some fault) → (fault ≡ Memory) ⊎ (update_fault H u t ≡ Some fault)
-        answer-clash fault h = ⊎_elim inl (λ e. inr (fault-is ∙ ap (clash_fault H) (sym are) ∙ e)) h
 
       pub applied-is : applied H u t ≡ Ok (grafted H (found_in H (known_of H u t)) (half_of u 1) 0)
       applied-is = ap (λ o. or_refused o (grafted H (found_in H (known_of H u t)) (half_of u 1) 0)) no-refusal
 
   -- what is known of the old tree is what its cells show
+  pub known-cell : (known : List ChildInfo) → known ≡ each_once same_info (map (info_of H) (known_of H u t)) → (k : ChildInfo) → Contains known k → (s : Tree) × Contains (subtrees t) s × (info_of H s ≡ k)
+  known-cell known are k h =
+      let met = Contains-map (info_of H) (known_of H u t) k (Contains-each_once_cases same_info same_info-Decides (map (info_of H) (known_of H u t)) k (subst (λ ks. Contains ks k) are h)) in
+      (met.0, subtree-known H (half_of u 0) t 0 met.0 met.1, met.2)
+
   pub known-old : (known : List ChildInfo) → known ≡ each_once same_info (map (info_of H) (known_of H u t)) → (cells : List NewCell) (k : ChildInfo) → Contains known k → Contains (known_infos H cells (t ∷ [])) k
   known-old known are cells k h =
-      let met = Contains-map (info_of H) (known_of H u t) k (Contains-each_once_cases same_info same_info-Decides (map (info_of H) (known_of H u t)) k (subst (λ ks. Contains ks k) are h)) in
-      subst (Contains (known_infos H cells (t ∷ []))) met.2
-      (Contains-append_right (map (info_of_new H) cells) (map (info_of H) (old_cells (t ∷ []))) (info_of H met.0)
-      (Contains-mapped (info_of H) (old_cells (t ∷ [])) met.0 (Contains-append_left (subtrees t) [] met.0 (subtree-known H (half_of u 0) t 0 met.0 met.1))))
+      let cell = known-cell known are k h in
+      subst (Contains (known_infos H cells (t ∷ []))) cell.2 (old-shown H cells (t ∷ []) cell.0 (Contains-append_left (subtrees t) [] cell.0 cell.1))
+
+  -- ---- by the faces that are listed
+
+  module _ (new : List FaceView) where
+    pub answer-pair : (fault : PairFault) (answer : PrepareFault) → answer ≡ of_pair fault → (fault ≡ pair.Memory) ⊎ (refusal_of_pairing fault ≡ tree_refusal H u t) → (answer ≡ Memory) ⊎ (fault_over H u t new ≡ Some answer)
+    answer-pair fault answer is h =
+        subst (λ a. (a ≡ Memory) ⊎ (fault_over H u t new ≡ Some a)) (sym is)
+        (⊎_elim
+        inl
+        (λ e.
+        inr
+        (ap (λ o. option_or (option_map fault_of_refusal o) (clash_fault H new)) regrouped
+        ∙ first-mapped (tree_refusal H u t) (graft_refusal H u t) (clash_fault H new) (of_pair fault) e))
+        (pair-fault fault (tree_refusal H u t) h))
+
+    module _ (paired : tree_refusal H u t ≡ None) where
+      pub answer-graft : (fault : GraftFault) (answer : PrepareFault) → answer ≡ of_graft fault → (fault ≡ graft.Memory) ⊎ (option_map graft.Foreign (first_foreign H (found_in H (known_of H u t)) (half_of u 1) 0) ≡ Some fault) → (answer ≡ Memory) ⊎ (fault_over H u t new ≡ Some answer)
+      answer-graft fault answer is h =
+          let hash = first_foreign H (found_in H (known_of H u t)) (half_of u 1) 0 in
+          subst (λ a. (a ≡ Memory) ⊎ (fault_over H u t new ≡ Some a)) (sym is)
+          (⊎_elim
+          inl
+          (λ e. inr (ap (λ o. option_or (option_map fault_of_refusal o) (clash_fault H new)) (refused paired) ∙ foreign-mapped hash (clash_fault H new) (of_graft fault) e))
+          (graft-fault hash fault h))
+
+      module _ (none : first_foreign H (found_in H (known_of H u t)) (half_of u 1) 0 ≡ None) (faces : List FaceView) (are : faces ≡ new) where
+        fault-is : fault_over H u t new ≡ clash_fault H faces
+        fault-is = ap (λ o. option_or (option_map fault_of_refusal o) (clash_fault H new)) (no-refusal paired none) ∙ ap (clash_fault H) (sym are)
+
+        pub answer-none : clash_fault H faces ≡ None → fault_over H u t new ≡ None
+        answer-none e = fault-is ∙ e
+
+        pub answer-clash : (fault : PrepareFault) → (fault ≡ Memory) ⊎ (clash_fault H faces ≡ Some fault) → (fault ≡ Memory) ⊎ (fault_over H u t new ≡ Some fault)
+        answer-clash fault h = ⊎_elim inl (λ e. inr (fault-is ∙ e)) h
 
 -- ---- which fault comes by the faces alone
 
 first-some : {A : Type 0} (o p : Option A) (x : A) → o ≡ Some x → option_or o p ≡ Some x
 first-some o p x e = ap (λ q. option_or q p) e
 
-module _ (H : List ℕ → Hash256) (u : Tree) (root : ChildInfo) (faces : List (Option FaceView)) where
-  pub refused-pair : (fault : PairFault) (answer : PrepareFault) → answer ≡ of_pair fault → (fault ≡ pair.Memory) ⊎ (refusal_of_pairing fault ≡ pair_refusal H u root faces) → (answer ≡ Memory) ⊎ (faces_fault H u root faces ≡ Some answer)
+-- refused is what pairing refuses by the faces, and listed are the faces that are
+module _ (H : List ℕ → Hash256) (u : Tree) (refused : Option UpdateRefusal) (listed : List FaceView) where
+  pub refused-pair : (fault : PairFault) (answer : PrepareFault) → answer ≡ of_pair fault → (fault ≡ pair.Memory) ⊎ (refusal_of_pairing fault ≡ refused) → (answer ≡ Memory) ⊎ (fault_by H u refused listed ≡ Some answer)
   refused-pair fault answer is h =
-      subst (λ a. (a ≡ Memory) ⊎ (faces_fault H u root faces ≡ Some a)) (sym is)
-      (⊎_elim inl (λ e. inr (first-some (option_map fault_of_refusal (pair_refusal H u root faces)) _ (of_pair fault) e)) (pair-fault fault (pair_refusal H u root faces) h))
+      subst (λ a. (a ≡ Memory) ⊎ (fault_by H u refused listed ≡ Some a)) (sym is)
+      (⊎_elim inl (λ e. inr (first-some (option_map fault_of_refusal refused) _ (of_pair fault) e)) (pair-fault fault refused h))
 
-  module _ (paired : pair_refusal H u root faces ≡ None) (known : List ChildInfo) (met : known ≡ met_infos H (half_of u 0)) where
-    unpaired : faces_fault H u root faces ≡ option_or (option_map (λ hash. Foreign hash) (foreign_hash H known (half_of u 1))) (clash_fault H (own_faces H known (half_of u 1)))
+  module _ (paired : refused ≡ None) (known : List ChildInfo) (met : known ≡ met_infos H (half_of u 0)) where
+    unpaired : fault_by H u refused listed ≡ option_or (option_map (λ hash. Foreign hash) (foreign_hash H known (half_of u 1))) (clash_fault H listed)
     unpaired =
-        ap (λ o. option_or (option_map fault_of_refusal o) (option_or (option_map (λ hash. Foreign hash) (foreign_hash H (met_infos H (half_of u 0)) (half_of u 1))) (clash_fault H (grafted_faces H u)))) paired
-        ∙ ap (λ ks. option_or (option_map (λ hash. Foreign hash) (foreign_hash H ks (half_of u 1))) (clash_fault H (own_faces H ks (half_of u 1)))) (sym met)
+        ap (λ o. option_or (option_map fault_of_refusal o) (option_or (option_map (λ hash. Foreign hash) (foreign_hash H (met_infos H (half_of u 0)) (half_of u 1))) (clash_fault H listed))) paired
+        ∙ ap (λ ks. option_or (option_map (λ hash. Foreign hash) (foreign_hash H ks (half_of u 1))) (clash_fault H listed)) (sym met)
 
-    pub refused-graft : (fault : GraftFault) (answer : PrepareFault) → answer ≡ of_graft fault → (fault ≡ graft.Memory) ⊎ (option_map graft.Foreign (foreign_hash H known (half_of u 1)) ≡ Some fault) → (answer ≡ Memory) ⊎ (faces_fault H u root faces ≡ Some answer)
+    pub refused-graft : (fault : GraftFault) (answer : PrepareFault) → answer ≡ of_graft fault → (fault ≡ graft.Memory) ⊎ (option_map graft.Foreign (foreign_hash H known (half_of u 1)) ≡ Some fault) → (answer ≡ Memory) ⊎ (fault_by H u refused listed ≡ Some answer)
     refused-graft fault answer is h =
-        subst (λ a. (a ≡ Memory) ⊎ (faces_fault H u root faces ≡ Some a)) (sym is)
+        subst (λ a. (a ≡ Memory) ⊎ (fault_by H u refused listed ≡ Some a)) (sym is)
         (⊎_elim
         inl
         (λ e. inr (unpaired ∙ first-some (option_map (λ hash. Foreign hash) (foreign_hash H known (half_of u 1))) _ (of_graft fault) e))
         (graft-fault (foreign_hash H known (half_of u 1)) fault h))
 
-    module _ (none : foreign_hash H known (half_of u 1) ≡ None) (own : List FaceView) (are : own ≡ own_faces H known (half_of u 1)) where
-      clash-is : faces_fault H u root faces ≡ clash_fault H own
-      clash-is =
-          unpaired
-          ∙ ap (λ o. option_or (option_map (λ hash. Foreign hash) o) (clash_fault H (own_faces H known (half_of u 1)))) none
-          ∙ ap (clash_fault H) (sym are)
+    module _ (none : foreign_hash H known (half_of u 1) ≡ None) (faces : List FaceView) (are : faces ≡ listed) where
+      clash-is : fault_by H u refused listed ≡ clash_fault H faces
+      clash-is = unpaired ∙ ap (λ o. option_or (option_map (λ hash. Foreign hash) o) (clash_fault H listed)) none ∙ ap (clash_fault H) (sym are)
 
-      pub refused-none : clash_fault H own ≡ None → faces_fault H u root faces ≡ None
+      pub refused-none : clash_fault H faces ≡ None → fault_by H u refused listed ≡ None
       refused-none e = clash-is ∙ e
 
-      pub refused-clash : (fault : PrepareFault) → (fault ≡ Memory) ⊎ (clash_fault H own ≡ Some fault) → (fault ≡ Memory) ⊎ (faces_fault H u root faces ≡ Some fault)
+      pub refused-clash : (fault : PrepareFault) → (fault ≡ Memory) ⊎ (clash_fault H faces ≡ Some fault) → (fault ≡ Memory) ⊎ (fault_by H u refused listed ≡ Some fault)
       refused-clash fault h = ⊎_elim inl (λ e. inr (clash-is ∙ e)) h
 
 -- without a clash there is no fault
@@ -166,20 +176,25 @@ clash-none H faces e = unmapped (clash_of H faces) e
 
 -- ---- the listed cells are the new ones
 
-module _ (H : List ℕ → Hash256) (own : List Tree) (faces : List FaceView) (are : faces ≡ each_once same_face (map (face_of H) own)) (clear : AreClear H faces) (cells : List NewCell) (listed : AreListed H faces cells) where
+-- faces are those of some trees
+pub record AreFacesOf (H : List ℕ → Hash256) (own : List Tree) (faces : List FaceView) : Type 0 where
+  pub there : (c : Tree) → Contains own c → Contains faces (face_of H c)
+  pub back : (f : FaceView) → Contains faces f → (c : Tree) × Contains own c × (face_of H c ≡ f)
+
+pub each-face : (H : List ℕ → Hash256) (own : List Tree) (faces : List FaceView) → faces ≡ each_once same_face (map (face_of H) own) → AreFacesOf H own faces
+each-face H own faces are = record {
+  there = λ c h.
+      subst (λ fs. Contains fs (face_of H c)) (sym are)
+      (Contains-each_once same_face same_face-Decides (map (face_of H) own) (face_of H c) (Contains-mapped (face_of H) own c h));
+  back = λ f h. Contains-map (face_of H) own f (Contains-each_once_cases same_face same_face-Decides (map (face_of H) own) f (subst (λ fs. Contains fs f) are h));
+}
+
+module _ (H : List ℕ → Hash256) (own : List Tree) (faces : List FaceView) (are : AreFacesOf H own faces) (clear : AreClear H faces) (cells : List NewCell) (listed : AreListed H faces cells) where
   abbrev sorted : List Tree
   sorted = sorted_distinct (export_cmp H) own
 
   distinct : AreDistinct (export_cmp H) own sorted
   distinct = AreDistinct-sorted_distinct (export_cmp H) (export_cmp-total H) own
-
-  face-own : (c : Tree) → Contains own c → Contains faces (face_of H c)
-  face-own c h =
-      subst (λ fs. Contains fs (face_of H c)) (sym are)
-      (Contains-each_once same_face same_face-Decides (map (face_of H) own) (face_of H c) (Contains-mapped (face_of H) own c h))
-
-  own-face : (f : FaceView) → Contains faces f → (c : Tree) × Contains own c × (face_of H c ≡ f)
-  own-face f h = Contains-map (face_of H) own f (Contains-each_once_cases same_face same_face-Decides (map (face_of H) own) f (subst (λ fs. Contains fs f) are h))
 
   rep-face : (c : Tree) → rep_of H c ≡ rep_of_face H (face_of H c)
   rep-face c = ap rep_of_info (info_of-face_of H c)
@@ -197,18 +212,18 @@ module _ (H : List ℕ → Hash256) (own : List Tree) (faces : List FaceView) (a
   into : (c : NewCell) → Contains cells c → Contains (map (new_cell_of H) sorted) c
   into c h =
       let face = listed.within c h in
-      let tree = own-face face.0 face.1 in
+      let tree = are.back face.0 face.1 in
       let tie = distinct.whole tree.0 tree.1 in
       let reps : rep_of_face H (face_of H tie.0) ≡ rep_of_face H face.0 =
       sym (rep-face tie.0) ∙ sym (export_cmp-ties H tree.0 tie.0 tie.2) ∙ rep-face tree.0 ∙ ap (rep_of_face H) tree.2
       in
-      let same = clear (face_of H tie.0) face.0 (face-own tie.0 (distinct.within tie.0 tie.1)) face.1 reps in
+      let same = clear (face_of H tie.0) face.0 (are.there tie.0 (distinct.within tie.0 tie.1)) face.1 reps in
       subst (Contains (map (new_cell_of H) sorted)) (cell-face tie.0 ∙ ap (new_cell_with H) same ∙ sym face.2) (Contains-mapped (new_cell_of H) sorted tie.0 tie.1)
 
   back : (c : NewCell) → Contains (map (new_cell_of H) sorted) c → Contains cells c
   back c h =
       let tree = Contains-map (new_cell_of H) sorted c h in
-      subst (Contains cells) (sym (cell-face tree.0) ∙ tree.2) (listed.whole (face_of H tree.0) (face-own tree.0 (distinct.within tree.0 tree.1)))
+      subst (Contains cells) (sym (cell-face tree.0) ∙ tree.2) (listed.whole (face_of H tree.0) (are.there tree.0 (distinct.within tree.0 tree.1)))
 
   pub listed-new_cells : cells ≡ map (new_cell_of H) (sorted_distinct (export_cmp H) own)
   listed-new_cells =

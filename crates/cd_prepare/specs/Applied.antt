@@ -42,12 +42,14 @@ module _ (H : List ℕ → Hash256) (u : Tree) where
   abbrev pub grafted_faces : List FaceView
   grafted_faces = own_faces H (met_infos H (half_of u 0)) (half_of u 1)
 
-  -- why an update isn't prepared: the first refusal, or else a clash of two own cells
+  -- why an update isn't prepared: the first refusal of pairing or of grafting, or else a clash of two listed cells
+  abbrev pub fault_by : Option UpdateRefusal → List FaceView → Option PrepareFault
+  fault_by paired listed =
+      option_or (option_map fault_of_refusal paired)
+      (option_or (option_map (λ hash. Foreign hash) (foreign_hash H (met_infos H (half_of u 0)) (half_of u 1))) (clash_fault H listed))
+
   abbrev pub faces_fault : ChildInfo → List (Option FaceView) → Option PrepareFault
-  faces_fault root faces =
-      option_or (option_map fault_of_refusal (pair_refusal H u root faces))
-      (option_or (option_map (λ hash. Foreign hash) (foreign_hash H (met_infos H (half_of u 0)) (half_of u 1)))
-      (clash_fault H grafted_faces))
+  faces_fault root faces = fault_by (pair_refusal H u root faces) grafted_faces
 
 -- ---- over an old tree
 
@@ -56,9 +58,12 @@ module _ (H : List ℕ → Hash256) (u t : Tree) where
   abbrev pub new_faces : List FaceView
   new_faces = each_once same_face (map (face_of H) (new_cells H u t))
 
-  -- why an update isn't prepared over an old tree: the first refusal, or else a clash of two new cells
+  -- why an update isn't prepared over an old tree: the first refusal, or else a clash of two listed cells
+  abbrev pub fault_over : List FaceView → Option PrepareFault
+  fault_over listed = option_or (option_map fault_of_refusal (refusal_of H u t)) (clash_fault H listed)
+
   abbrev pub update_fault : Option PrepareFault
-  update_fault = option_or (option_map fault_of_refusal (refusal_of H u t)) (clash_fault H new_faces)
+  update_fault = fault_over new_faces
 
   -- a root and listed cells are those of the update applied to the old tree: they fit over that, and stand for the new
   -- tree where the old tree and the new cells together are free of clashes

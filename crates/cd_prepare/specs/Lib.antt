@@ -4,3 +4,4 @@ pub mod States
 pub mod NewCells
 pub mod UpdateFaults
 pub mod Applied
+pub mod Merged

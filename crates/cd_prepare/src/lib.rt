@@ -12,7 +12,7 @@ mod update;
 mod zero;
 
 pub use laws::{all_cells_of_a_state_stand_for_it, new_cells_stand_for_the_applied_tree};
-pub use merged::split_face;
+pub use merged::{prepare_merged, split_face};
 pub use prepare_fault::PrepareFault;
 pub use update::prepare_update;
 pub use zero::{all_cells, prepare_zero};

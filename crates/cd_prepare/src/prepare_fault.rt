@@ -47,6 +47,11 @@ pub enum PrepareFault {
     NewClash {
         hash: Hash256,
     },
+    /// The joined tree of two states would have this depth, which is over the greatest one that a cell has, 1024.
+    #[error("two states that join to a depth of {depth}")]
+    SplitDeep {
+        depth: u32,
+    },
     /// Memory ran out.
     #[error("out of memory")]
     Memory,

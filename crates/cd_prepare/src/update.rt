@@ -48,8 +48,8 @@ fn listing_of<H: Hash32>(
     cells_of(alloc, faces, &keys)
 }
 
-/// Own cells in the order of an export, or the least hash that two of them share.
-fn new_cells<H: Hash32>(
+/// New cells in the order of an export, or the least hash that two of them share.
+pub(crate) fn new_cells<H: Hash32>(
     alloc: Global,
     faces: &[Face],
     infos: &[ChildInfo],

@@ -2,3 +2,4 @@ pub mod OrderLaws
 pub mod CountLaws
 pub mod StateLaws
 pub mod OnceLaws
+pub mod WordLaws

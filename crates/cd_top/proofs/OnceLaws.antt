@@ -14,6 +14,7 @@ use Rattle.cd_world.proofs.Puts.{changed-change_of}
 use Rattle.cd_top.specs.declared.status.Status.{Status}
 use Rattle.cd_top.specs.declared.status.Status.TheVariants as status
 use Rattle.cd_top.specs.declared.status.InputFault.TheVariants as input
+use Rattle.cd_top.specs.declared.zero.ZeroName.{ZeroName}
 use Rattle.cd_top.specs.Zero.{zero_id, zero_world, zero_text}
 use Rattle.cd_top.specs.ZeroCall.{IsInput, IsOfState, IsRefusal, IsStored, IsMade, IsKept, HasGot, HasFailed, AreSame, ZeroEnds, IsStoring}
 
@@ -26,22 +27,22 @@ all-held : (P : Contents → Type 0) (old new : Option Contents) (image : Conten
 all-held P None new image e p = subst (λ (o : Option Contents). IfSome o P) (sym e) tt
 all-held P (Some contents) new image e p = subst (λ (o : Option Contents). IfSome o P) (sym e) p
 
-module _ (H : List ℕ → Hash256) where
+module _ (H : List ℕ → Hash256) (name : ZeroName) where
   -- what the change makes of empty contents is the image
-  imaged : (state : Tree) → changed (change_of H (zero_world H state)) no_contents ≡ image_of H (zero_world H state)
-  imaged state = changed-change_of H (record { id = zero_id (rep_of H state); parents = []; state = state; tops = []; leaving = false }) (zero_world H state) refl
+  imaged : (state : Tree) → changed (change_of H (zero_world H name state)) no_contents ≡ image_of H (zero_world H name state)
+  imaged state = changed-change_of H (record { id = zero_id name (rep_of H state); parents = []; state = state; tops = []; leaving = false }) (zero_world H name state) refl
 
-  held-after : (held : Option Contents) (change : Change) (state : Tree) → IfSome held (λ contents. contents ≡ no_contents) → change ≡ change_of H (zero_world H state)
-      → option_map (changed change) held ≡ option_map (λ _. image_of H (zero_world H state)) held
+  held-after : (held : Option Contents) (change : Change) (state : Tree) → IfSome held (λ contents. contents ≡ no_contents) → change ≡ change_of H (zero_world H name state)
+      → option_map (changed change) held ≡ option_map (λ _. image_of H (zero_world H name state)) held
   held-after None change state empty is = refl
   held-after (Some contents) change state empty is =
       ap (λ (x : Contents). Some x) ((λ i. changed (is i) (empty i)) ∙ imaged state)
 
   module _ {S O K : Type 0} (s : SourceGhosts S) (o : SinkGhosts O) (k : KeeperGhosts K) (i j : S) (out out_after : O) (keeper keeper_after : K) where
-    stored : (change : Change) (state : Tree) → IfSome (k.held keeper) (λ contents. contents ≡ no_contents) → change ≡ change_of H (zero_world H state)
-        → (text : List ℕ) → IsMade o k change text keeper keeper_after → IsStored H k state keeper keeper_after
+    stored : (change : Change) (state : Tree) → IfSome (k.held keeper) (λ contents. contents ≡ no_contents) → change ≡ change_of H (zero_world H name state)
+        → (text : List ℕ) → IsMade o k change text keeper keeper_after → IsStored H k name state keeper keeper_after
     stored change state empty is text e =
-        let world = zero_world H state in
+        let world = zero_world H name state in
         let now = e.applied.made ∙ held-after (k.held keeper) change state empty is in
         record {
           told = all-told (k.held keeper) (k.held keeper_after) (image_of H world) now;
@@ -54,9 +55,9 @@ module _ (H : List ℕ → Hash256) where
 
     pub ends-from_storing : (change : Change) (text : List ℕ) (state : Tree) (end : Status)
         → IfSome (k.held keeper) (λ contents. contents ≡ no_contents) → IsOfState H s state i j
-        → change ≡ change_of H (zero_world H state) → text ≡ zero_text H state
+        → change ≡ change_of H (zero_world H name state) → text ≡ zero_text H name state
         → IsStoring o k change text out out_after keeper keeper_after end
-        → ZeroEnds H s o k i j out out_after keeper keeper_after end
+        → ZeroEnds H s o k name i j out out_after keeper keeper_after end
     ends-from_storing change text state status.Ok empty read is printed e =
         (state, read, stored change state empty is text e.0, subst (λ t. HasGot o t out out_after) printed e.1)
     ends-from_storing change text state status.WriteFault empty read is printed e =
@@ -78,7 +79,7 @@ module _ (H : List ℕ → Hash256) where
 
     -- bytes that are no bag of a state end as the table says
     pub ends-refused : (bytes : List ℕ) (end : Status) → IsInput s bytes i j → AreSame out out_after keeper keeper_after → IsRefusal H bytes end
-        → ZeroEnds H s o k i j out out_after keeper keeper_after end
+        → ZeroEnds H s o k name i j out out_after keeper keeper_after end
     ends-refused bytes status.Ok input same refused = absurd refused
     ends-refused bytes (status.Usage fault) input same refused = refused
     ends-refused bytes (status.BadInput (input.Long limit)) input same refused = absurd refused

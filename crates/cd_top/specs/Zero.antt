@@ -1,5 +1,5 @@
 -- Trusted: what storing a state as a zero state does: the block's name, the world with that one block, and the text.
-use Rattle.std.specs.Prelude.{◌≡◌, ℕ, List, [], ◌∷◌, ◌++◌, negsuc, replicate, false, codes}
+use Rattle.std.specs.Prelude.{◌≡◌, ℕ, List, [], ◌∷◌, ◌++◌, false, codes}
 use Rattle.std.specs.Fmt.{decimal}
 use Rattle.std.specs.FinMap as finite
 use Rattle.cd_base.specs.declared.hash.Hash256.{Hash256}
@@ -18,14 +18,15 @@ use Rattle.cd_world.specs.World.{World, held_cells}
 use Rattle.cd_top.specs.declared.status.Status.{Status}
 use Rattle.cd_top.specs.declared.status.Status.TheVariants as status
 use Rattle.cd_top.specs.declared.status.TopRefusal.TheVariants as refusal
+use Rattle.cd_top.specs.declared.zero.ZeroName.{ZeroName}
 
--- the masterchain's block of seqno 0 with this root hash and a file hash of zeros
-abbrev pub zero_id : Hash256 → BlockId
-zero_id root = record {
-  shard_id = record { workchain = negsuc 0; shard = 0x8000000000000000 };
+-- the block of seqno 0 of the whole workchain of this name, with this root hash
+abbrev pub zero_id : ZeroName → Hash256 → BlockId
+zero_id name root = record {
+  shard_id = record { workchain = name.workchain; shard = 0x8000000000000000 };
   seqno = 0;
   root = root;
-  file = record { 0 = replicate 32 0 };
+  file = name.file;
 }
 
 -- the description of a zero state with this name and depth
@@ -45,11 +46,12 @@ unfoldable pub block_text : BlockId → ℕ → List ℕ
 block_text id count = codes "id " ++ id_text id ++ codes "\ncells " ++ decimal count ++ codes "\n"
 
 module _ (H : List ℕ → Hash256) where
-  abbrev pub zero_world : Tree → World
-  zero_world state = world_of (zero_id (rep_of H state)) state
+  abbrev pub zero_world : ZeroName → Tree → World
+  zero_world name state = world_of (zero_id name (rep_of H state)) state
 
-  abbrev pub zero_text : Tree → List ℕ
-  zero_text state = block_text (zero_id (rep_of H state)) (finite.len (held_cells H (zero_world state)))
+  abbrev pub zero_text : ZeroName → Tree → List ℕ
+  zero_text name state =
+      block_text (zero_id name (rep_of H state)) (finite.len (held_cells H (zero_world name state)))
 
   -- a value lists all cells of this state
   pub record IsListOf (state : Tree) (value : PreparedView) : Type 0 where
@@ -57,9 +59,9 @@ module _ (H : List ℕ → Hash256) where
     pub whole : IsWhole H state value.root value.cells
 
   -- what storing this state takes: the change that makes its world, and what is printed
-  pub record IsPlanOf (state : Tree) (batch : Change) (text : List ℕ) : Type 0 where
-    pub batch_is : batch ≡ change_of H (zero_world state)
-    pub text_is : text ≡ zero_text state
+  pub record IsPlanOf (name : ZeroName) (state : Tree) (batch : Change) (text : List ℕ) : Type 0 where
+    pub batch_is : batch ≡ change_of H (zero_world name state)
+    pub text_is : text ≡ zero_text name state
 
 -- the faults of preparing that a state can have
 abbrev pub IsStateFault : PrepareFault → Type 0

@@ -1,5 +1,5 @@
--- Trusted: how a call of the program ends: what each status says of the words, the input, the output and the keeper.
-use Rattle.std.specs.Prelude.{◌≡◌, ◌≢◌, ℕ, ◌<◌, ◌≤◌, List, [], ◌∷◌, length, Some, is_some, IfSome, codes, string_bytes}
+-- Trusted: how the command `zero` ends: what each status says of the input, the output and the keeper.
+use Rattle.std.specs.Prelude.{◌≡◌, ◌≢◌, ℕ, ◌<◌, ◌≤◌, List, [], ◌∷◌, length, Some, is_some, IfSome}
 use Rattle.std.specs.Option.{option_map}
 use Rattle.cd_base.specs.declared.hash.Hash256.{Hash256}
 use Rattle.cd_base.specs.declared.source.Source.{Ghosts as SourceGhosts}
@@ -15,15 +15,11 @@ use Rattle.cd_boc_read.specs.BagFaults.{bag_fault}
 use Rattle.cd_world.specs.Image.{change_of, IsContentsOf, IsPlain}
 use Rattle.cd_top.specs.declared.status.Status.{Status}
 use Rattle.cd_top.specs.declared.status.Status.TheVariants as status
-use Rattle.cd_top.specs.declared.status.WordFault.TheVariants as word
 use Rattle.cd_top.specs.declared.status.InputFault.TheVariants as input
 use Rattle.cd_top.specs.declared.status.TopRefusal.TheVariants as refusal
 use Rattle.cd_top.specs.declared.limits.TheConstants.{INPUT_LIMIT}
+use Rattle.cd_top.specs.declared.zero.ZeroName.{ZeroName}
 use Rattle.cd_top.specs.Zero.{zero_world, zero_text}
-
--- exactly the one word `zero`
-abbrev pub IsZeroLine : List (List ℕ) → Type 0
-IsZeroLine words = words ≡ codes "zero" ∷ []
 
 module _ (H : List ℕ → Hash256) where
   -- the bytes are a bag of this one tree, and its root is of level 0
@@ -72,12 +68,12 @@ module _ (H : List ℕ → Hash256) {S : Type 0} (s : SourceGhosts S) where
     pub input : IsInput s bytes old new
     pub refusal : IsRefusal H bytes end
 
-module _ (H : List ℕ → Hash256) {K : Type 0} (k : KeeperGhosts K) where
+module _ (H : List ℕ → Hash256) {K : Type 0} (k : KeeperGhosts K) (name : ZeroName) where
   -- the keeper's contents are those of the world with the one block of this state, in records of version 2 alone, and
   -- were made in one batch without a fault
   pub record IsStored (state : Tree) (old new : K) : Type 0 where
     pub told : is_some (k.held new) ≡ is_some (k.held old)
-    pub held : IfSome (k.held new) (IsContentsOf H (zero_world H state))
+    pub held : IfSome (k.held new) (IsContentsOf H (zero_world H name state))
     pub plain : IfSome (k.held new) IsPlain
     pub trail : k.trail new ≡ longer (k.trail old) (k.held new)
     pub batches : k.batches new ≡ one_more (k.batches old)
@@ -114,13 +110,13 @@ pub record AreSame {O K : Type 0} (out out_after : O) (kept kept_after : K) : Ty
   pub sink : out_after ≡ out
   pub keeper : kept_after ≡ kept
 
-module _ (H : List ℕ → Hash256) {S O K : Type 0} (s : SourceGhosts S) (o : SinkGhosts O) (k : KeeperGhosts K) where
-  -- how the command `zero` ends
+module _ (H : List ℕ → Hash256) {S O K : Type 0} (s : SourceGhosts S) (o : SinkGhosts O) (k : KeeperGhosts K) (name : ZeroName) where
+  -- how the command `zero` ends, with what its words say of the block's name
   abbrev pub ZeroEnds : S → S → O → O → K → K → Status → Type 0
   -- stored and printed
   ZeroEnds i j out out_after keeper keeper_after status.Ok =
-      (state : Tree) × IsOfState H s state i j × IsStored H k state keeper keeper_after
-      × HasGot o (zero_text H state) out out_after
+      (state : Tree) × IsOfState H s state i j × IsStored H k name state keeper keeper_after
+      × HasGot o (zero_text H name state) out out_after
   -- never: these words are those of a command
   ZeroEnds i j out out_after keeper keeper_after (status.Usage fault) = ⊥
   -- too long
@@ -134,8 +130,8 @@ module _ (H : List ℕ → Hash256) {S O K : Type 0} (s : SourceGhosts S) (o : S
       Rose (s.faults i) (s.faults j) × AreSame out out_after keeper keeper_after
   -- the sink failed: stored, and a part of it printed
   ZeroEnds i j out out_after keeper keeper_after status.WriteFault =
-      (state : Tree) × IsOfState H s state i j × IsStored H k state keeper keeper_after
-      × HasFailed o (zero_text H state) out out_after
+      (state : Tree) × IsOfState H s state i j × IsStored H k name state keeper keeper_after
+      × HasFailed o (zero_text H name state) out out_after
   -- the keeper failed: nothing stored, nothing printed
   ZeroEnds i j out out_after keeper keeper_after status.KeeperFault =
       (state : Tree) × IsOfState H s state i j × HasRefused k keeper keeper_after × (out_after ≡ out)
@@ -145,12 +141,6 @@ module _ (H : List ℕ → Hash256) {S O K : Type 0} (s : SourceGhosts S) (o : S
   -- want of memory: nothing stored, nothing printed
   ZeroEnds i j out out_after keeper keeper_after status.Memory =
       NoFault (s.faults i) (s.faults j) × IsKept k keeper keeper_after × (out_after ≡ out)
-
-  -- how a call ends, by its words: a row for each command, and one for words that are none
-  pub record Ends (words : List (List ℕ)) (i j : S) (out out_after : O) (keeper keeper_after : K) (end : Status) : Type 0 where
-    pub zero : IsZeroLine words → ZeroEnds i j out out_after keeper keeper_after end
-    pub usage : ¬ IsZeroLine words
-        → (end ≡ status.Usage word.Usage) × (j ≡ i) × AreSame out out_after keeper keeper_after
 
 -- how making a change and writing a text ends
 module _ {O K : Type 0} (o : SinkGhosts O) (k : KeeperGhosts K) (change : Change) (text : List ℕ) where

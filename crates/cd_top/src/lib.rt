@@ -9,6 +9,7 @@ mod records;
 mod status;
 mod zero;
 
+pub use cd_words::WordFault;
 pub use limits::INPUT_LIMIT;
 pub use once::{Ended, celldb_once};
-pub use status::{InputFault, Status, TopRefusal, WordFault};
+pub use status::{InputFault, Status, TopRefusal};

@@ -1,17 +1,21 @@
-ghost use Rattle.std.specs.Prelude.{◌≡◌, ◌↔◌, ◌≤◌, length, IfOk, IfErr, IfSome, IsTrue, map, string_bytes};
+ghost use Rattle.std.specs.Prelude.{◌≡◌, ◌≢◌, None, ◌≤◌, length, IfOk, IfErr, IfSome, map, string_bytes};
 ghost use Rattle.cd_cell.specs.Tree.{Tree};
 ghost use Rattle.cd_keeper.specs.Contents.{no_contents};
 ghost use Rattle.cd_top.specs.Zero.{IsListOf, IsPlanOf, IsStateFault, status_of};
-ghost use Rattle.cd_top.specs.ZeroCall.{IsZeroLine, IsStateBag, IsRefusal, IsStoring, Ends, ZeroEnds};
+ghost use Rattle.cd_top.specs.declared.zero.ZeroName.{ZeroName};
+ghost use Rattle.cd_top.specs.Call as spec;
+ghost use Rattle.cd_top.specs.Call.{IsZeroLine, EndsUntaken, Ends};
+ghost use Rattle.cd_top.specs.ZeroCall.{IsStateBag, IsRefusal, IsStoring, ZeroEnds};
 
 use crate::limits::INPUT_LIMIT;
-use crate::status::{InputFault, Status, TopRefusal, WordFault};
-use crate::zero::{Plan, plan_zero};
+use crate::status::{InputFault, Status, TopRefusal};
+use crate::zero::{Plan, ZeroName, plan_zero};
 use cd_base::{ReadAllFault, Sink, Source, read_all, write_all};
 use cd_boc_read::{BagFault, read_bag};
 use cd_cell::{Hash32, MOST_CELLS, Prepared};
 use cd_keeper::{KeepFault, Keeper};
 use cd_prepare::{PrepareFault, prepare_zero};
+use cd_words::{Command, WordFault, read_words};
 use std::alloc::Global;
 use std::marker::PhantomData;
 
@@ -38,13 +42,40 @@ impl<K, H> Ended<K, H> {
     }
 }
 
-/// Whether the words are the one word `zero`.
-fn is_zero_line(words: &[String]) -> bool
-    ensures { IsTrue result ↔ IsZeroLine (map string_bytes words.now) }
+/// What a command says of a zero state's name, or the status of a call over another command.
+fn name_in(command: Command) -> Result<ZeroName, Status>
+    ensures found { IfOk result (λ name. command ≡ Command.Zero name.workchain name.file None) }
+    ensures other { IfErr result (λ status. (status ≡ Status.Usage WordFault.Usage)
+        × ((name : ZeroName) → command ≢ Command.Zero name.workchain name.file None)) }
 {
-    match words {
-        [word] => word.as_str() == "zero",
-        _ => false,
+    match command {
+        Command::Zero {
+            workchain,
+            file,
+            db: None,
+        } => Ok(ZeroName { workchain, file }),
+        _ => Err(Status::Usage(WordFault::Usage)),
+    }
+}
+
+/// The status of a call over words that are refused.
+fn status_by(fault: WordFault) -> Status
+    ensures { result ≡ spec.status_by fault }
+{
+    match fault {
+        WordFault::Memory => Status::Memory,
+        WordFault::Usage | WordFault::BadValue { .. } => Status::Usage(fault),
+    }
+}
+
+/// What the words of `zero` say of the block's name, or the status of a call over other words.
+fn name_of(alloc: Global, words: &[String]) -> Result<ZeroName, Status>
+    ensures found { IfOk result (λ name. IsZeroLine name (map string_bytes words.now)) }
+    ensures other { IfErr result (EndsUntaken (map string_bytes words.now)) }
+{
+    match read_words(alloc, words) {
+        Ok(command) => name_in(command),
+        Err(fault) => Err(status_by(fault)),
     }
 }
 
@@ -83,16 +114,17 @@ fn prepared_of<H: Hash32>(alloc: Global, bytes: Vec<u8>) -> Result<Prepared<H>, 
 }
 
 /// What is to be stored and printed for these bytes, or the status of a call over bytes that are no bag of a state.
-fn plan_of<H: Hash32>(alloc: Global, bytes: Vec<u8>) -> Result<Plan, Status>
+fn plan_of<H: Hash32>(alloc: Global, name: ZeroName, bytes: Vec<u8>) -> Result<Plan, Status>
     ensures found { IfOk result (λ plan. (state : Tree)
-        × IsStateBag H.digest_of bytes.items state × IsPlanOf H.digest_of state plan.batch (string_bytes plan.text)) }
+        × IsStateBag H.digest_of bytes.items state
+        × IsPlanOf H.digest_of name state plan.batch (string_bytes plan.text)) }
     ensures refused { IfErr result (IsRefusal H.digest_of bytes.items) }
 {
     let value = match prepared_of::<H>(alloc, bytes) {
         Ok(value) => value,
         Err(status) => return Err(status),
     };
-    match plan_zero(alloc, &value) {
+    match plan_zero(alloc, name, &value) {
         Ok(plan) => Ok(plan),
         Err(_) => Err(Status::Memory),
     }
@@ -113,9 +145,9 @@ fn store<O: Sink, K: Keeper, H: Hash32>(plan: &Plan, out: &mut O, mut keeper: K)
     }
 }
 
-/// One call of the program: `words` are the words behind its name, of which only the one word `zero` is a command
-/// so far. It reads a bag of cells to the end of the input, stores the state as the masterchain's zero state
-/// in one batch, and writes the block's name and the number of its cells.
+/// One call of the program: `words` are the words behind its name. Of the commands `zero` without a database is done so
+/// far: it reads a bag of cells to the end of the input, stores the state as a zero state in one batch, and writes the
+/// block's name and the number of its cells. The others are a usage fault, and nothing is asked of the objects.
 ///
 /// Want of memory alone is free; what each other status says stands in `Ends`.
 pub fn celldb_once<S: Source, O: Sink, K: Keeper, H: Hash32>(
@@ -129,22 +161,22 @@ pub fn celldb_once<S: Source, O: Sink, K: Keeper, H: Hash32>(
     ensures { Ends H.digest_of S.Source O.Sink K.Keeper (map string_bytes words.now)
         input.old input.new out.old out.new keeper result.keeper result.status }
 {
-    if is_zero_line(words) {
-        zero(alloc, input, out, keeper)
-    } else {
-        Ended::of(Status::Usage(WordFault::Usage), keeper)
+    match name_of(alloc, words) {
+        Ok(name) => zero(alloc, name, input, out, keeper),
+        Err(status) => Ended::of(status, keeper),
     }
 }
 
 /// The command `zero`.
 fn zero<S: Source, O: Sink, K: Keeper, H: Hash32>(
     alloc: Global,
+    name: ZeroName,
     input: &mut S,
     out: &mut O,
     keeper: K,
 ) -> Ended<K, H>
     requires empty { IfSome (K.held keeper) (λ contents. contents ≡ no_contents) }
-    ensures { ZeroEnds H.digest_of S.Source O.Sink K.Keeper input.old input.new out.old out.new
+    ensures { ZeroEnds H.digest_of S.Source O.Sink K.Keeper name input.old input.new out.old out.new
         keeper result.keeper result.status }
 {
     let bytes = match read_all(alloc, input, INPUT_LIMIT) {
@@ -155,7 +187,7 @@ fn zero<S: Source, O: Sink, K: Keeper, H: Hash32>(
         }
         Err(ReadAllFault::Memory) => return Ended::of(Status::Memory, keeper),
     };
-    match plan_of::<H>(alloc, bytes) {
+    match plan_of::<H>(alloc, name, bytes) {
         Ok(plan) => store(&plan, out, keeper),
         Err(status) => Ended::of(status, keeper),
     }

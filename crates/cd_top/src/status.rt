@@ -3,15 +3,8 @@ ghost use Rattle.cd_top.specs.StatusText.{code_of, line_of};
 
 use cd_boc_read::BagFault;
 use cd_cell::Mask;
+use cd_words::WordFault;
 use thiserror::Error;
-
-/// Why the words were refused.
-#[derive(Clone, Copy, Debug, PartialEq, Eq, Error)]
-pub enum WordFault {
-    /// The words are not those of a command.
-    #[error("the words are not those of a command")]
-    Usage,
-}
 
 /// Why the input was refused.
 #[derive(Clone, Copy, Debug, PartialEq, Eq, Error)]

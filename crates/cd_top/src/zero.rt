@@ -19,6 +19,15 @@ use cd_cell::{GREATEST_DEPTH, Hash32, MOST_CELLS, Prepared};
 use cd_keeper::Batch;
 use std::alloc::Global;
 
+/// What words say of a zero state's name: the rest is the state's.
+#[derive(Clone, Copy, Debug, PartialEq, Eq)]
+pub struct ZeroName {
+    /// The workchain, of which the block is the whole shard.
+    pub workchain: i32,
+    /// The hash of the block's file.
+    pub file: Hash256,
+}
+
 /// What storing a zero state takes.
 #[derive(Drop)]
 pub struct Plan {
@@ -28,18 +37,18 @@ pub struct Plan {
     pub text: String,
 }
 
-/// The name of the masterchain's zero state with this root hash.
-fn id_of(root: Hash256) -> BlockId
-    ensures { result ≡ zero_id root }
+/// The name of the zero state with this root hash.
+fn id_of(name: ZeroName, root: Hash256) -> BlockId
+    ensures { result ≡ zero_id name root }
 {
     BlockId {
         shard_id: ShardId {
-            workchain: -1,
+            workchain: name.workchain,
             shard: 0x8000_0000_0000_0000,
         },
         seqno: 0,
         root,
-        file: Hash256([0; 32]),
+        file: name.file,
     }
 }
 
@@ -89,15 +98,19 @@ fn batch_of(
 
 /// What storing a value as a zero state takes. Where it lists all cells of a state, this is the batch that makes the
 /// image of the world with that one block.
-pub fn plan_zero<H: Hash32>(alloc: Global, value: &Prepared<H>) -> Result<Plan, Memory>
+pub fn plan_zero<H: Hash32>(
+    alloc: Global,
+    name: ZeroName,
+    value: &Prepared<H>,
+) -> Result<Plan, Memory>
     requires few { length value.now.cells ≤ MOST_CELLS }
     ensures { IfOk result (λ plan. (state : Tree) → IsListOf H.digest_of state value.now
-        → IsPlanOf H.digest_of state plan.batch (string_bytes plan.text)) }
+        → IsPlanOf H.digest_of name state plan.batch (string_bytes plan.text)) }
 {
     let order = by_hash(alloc, value)?;
     let counts = count_references(alloc, value, &order)?;
     let puts = records_of(alloc, value, &order, &counts)?;
-    let id = id_of(value.root().rep());
+    let id = id_of(name, value.root().rep());
     let text = block_text(alloc, &id, order.len())?;
     let batch = batch_of(alloc, puts, id, value.root().height())?;
     Ok(Plan { batch, text })

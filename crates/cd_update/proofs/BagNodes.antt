@@ -149,3 +149,12 @@ module _ (H : List ℕ → Hash256) (bag : BagView) (is_bag : IsBag H bag.cells 
         ∙ each_once-flat_map same_node same_node-Decides like tell (λ m. f (at m)) below
         ∙ ap (each_once like) (sym (flat_map-map f at below))
         ∙ ap (λ ps. each_once like (flat_map f (drop 1 ps))) (sym (places-nodes n in' ∙ ap (map at) whole-nodes))
+
+    pub first_of-below : {B : Type 0} (ask : Place → Option B) → first_of ask (visited bag (drop 1 visits)) ≡ first_of ask (drop 1 (places H (bag_tree bag n.entry) n.depth))
+    first_of-below ask =
+        let at = place_of bag in
+        first_of-map ask at (nodes_of (drop 1 visits))
+        ∙ ap (first_of (λ m. ask (at m))) (nodes-behind visits n (each_once same_node below) front-nodes)
+        ∙ first_of-each_once same_node same_node-Decides (λ m. ask (at m)) below
+        ∙ sym (first_of-map ask at below)
+        ∙ ap (λ ps. first_of ask (drop 1 ps)) (sym (places-nodes n in' ∙ ap (map at) whole-nodes))

@@ -12,3 +12,5 @@ pub mod HalfVisits
 pub mod GraftInfos
 pub mod GraftVisits
 pub mod GraftTrees
+pub mod BelowVisits
+pub mod PairedHalves

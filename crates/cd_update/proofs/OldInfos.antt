@@ -77,7 +77,7 @@ IsOldInfo-of H t d top well =
 
 -- ---- what an old cell shows, by what shows it
 
-whole_face : (H : List ℕ → Hash256) (f : FaceView) → mask_of_face f ≤ 7 → info_of_face H f ≡ upto 3 (info_of_face H f)
+pub whole_face : (H : List ℕ → Hash256) (f : FaceView) → mask_of_face f ≤ 7 → info_of_face H f ≡ upto 3 (info_of_face H f)
 whole_face H f small =
     let k = info_of_face H f in
     ap (λ m. record { mask = m; hashes = k.hashes; depths = k.depths }) (let same : mask_of_face f ≡ lowest_bits (mask_of_face f) 3 = omega arith in same)
@@ -143,7 +143,7 @@ upto-matches d k top = record {
 }
 
 module _ (hidden : ChildInfo) (d : ℕ) (top : d ≤ 3) where
-  stands-as : (k : ChildInfo) → IsOldInfo k → stands_for hidden d k ≡ same_info (upto d hidden) k
+  pub stands-as : (k : ChildInfo) → IsOldInfo k → stands_for hidden d k ≡ same_info (upto d hidden) k
   stands-as k old =
       same_bool (stands_for hidden d k) (same_info (upto d hidden) k)
       (λ e.

@@ -1,5 +1,5 @@
 -- Laws of pairing by faces: visit by visit, and against an old tree.
-use Rattle.std.proofs.Common.{◌≡◌, ℕ, zero, suc, ◌+◌, ◌<◌, List, [], ◌∷◌, ◌++◌, length, get_or, take, drop, flat_map, fold, Bool, true, false, Option, Some, None, refl, ap, sym, ◌∙◌, inl, inr, ⊎_elim, ◌⊎◌, arith}
+use Rattle.std.proofs.Common.{◌≡◌, ℕ, zero, suc, ◌+◌, ◌<◌, List, [], ◌∷◌, ◌++◌, length, get_or, take, drop, flat_map, fold, Bool, true, false, Option, Some, None, refl, ap, ap₂, sym, subst, ◌∙◌, inl, inr, ⊎_elim, ◌⊎◌, arith}
 use Rattle.std.specs.Prelude.{if◌then◌else◌}
 use Rattle.std.specs.Option.{option_map, option_to_list}
 use Rattle.std.proofs.lemmas.List.{take-append-drop, get_or_append_left, length-append}
@@ -90,6 +90,13 @@ module _ (H : List ℕ → Hash256) where
         beside-at all_wanted faces hash place (IsOnce-each_once same_hash same_hash-Decides (flat_map (wanted_at H) (visited bag visits)))
         (omega (arith, ap length split, length-append so_far more.0))
         (ap (λ hs. get_or hs place no_hash) split ∙ get_or_append_left so_far more.0 no_hash place below ∙ at)
+
+    -- a visible visit is compared with the face in the place that its hash got
+    pub misfit-here : (faces : List (Option FaceView)) (hash : Hash256) (place : ℕ) (shown : FaceView) (so_far : List Hash256) → so_far ≡ with_new same_hash upto_here hash → visible_hash H (place_of bag (visit_at visits i).node) ≡ Some hash → place < length so_far → get_or so_far place no_hash ≡ hash → face_of H (place_of bag (visit_at visits i).node).tree ≡ shown → misfit_at H (beside all_wanted faces) (place_of bag (visit_at visits i).node) ≡ unlike (visit_at visits i).node.depth hash (get_or faces place None) shown
+    misfit-here faces hash place shown so_far grown some below at face =
+        let p = place_of bag (visit_at visits i).node in
+        let found = look-at faces hash place some (subst (λ hs. place < length hs) grown below) (ap (λ hs. get_or hs place no_hash) (sym grown) ∙ at) in
+        misfit_at-visible (beside all_wanted faces) p hash some ∙ ap₂ (λ o f. unlike p.depth hash o f) found face
 
 memory-unless_refused : (fault : PairFault) → refusal_of_pairing fault ≡ None → fault ≡ Memory
 memory-unless_refused (OldHash stated real) e = cc

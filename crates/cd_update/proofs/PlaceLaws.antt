@@ -54,7 +54,7 @@ module _ (H : List ℕ → Hash256) where
         let kd = kid_level (face_of H t) d in
         wanted-step (is_hidden d (face_of H t)) (hash_at H t d) (wanted_of_all H os kd) (places_of_all H os kd) (wanted-places_of_all os kd)
 
-    wanted-places_of_all : (ts : Trees) (d : ℕ) → wanted_of_all H ts d ≡ flat_map (wanted_at H) (places_of_all H ts d)
+    pub wanted-places_of_all : (ts : Trees) (d : ℕ) → wanted_of_all H ts d ≡ flat_map (wanted_at H) (places_of_all H ts d)
     wanted-places_of_all no_trees d = refl
     wanted-places_of_all (tree_and t ts) d =
         ap₂ (λ xs ys. xs ++ ys) (wanted-places t d) (wanted-places_of_all ts d) ∙ sym (flat_map-append (wanted_at H) (places H t d) (places_of_all H ts d))

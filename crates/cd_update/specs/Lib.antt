@@ -9,3 +9,5 @@ pub mod Grafts
 pub mod GraftSteps
 pub mod GraftWalks
 pub mod UpdateTrees
+pub mod PairingBelow
+pub mod Hides

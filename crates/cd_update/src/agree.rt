@@ -28,7 +28,7 @@ fn are_same_upto(a: &ChildInfo, b: &ChildInfo, depth: u8) -> bool
 }
 
 /// Whether hashes, depths and masks are equal up to a level.
-fn are_matching(a: &ChildInfo, b: &ChildInfo, depth: u8) -> bool
+pub(crate) fn are_matching(a: &ChildInfo, b: &ChildInfo, depth: u8) -> bool
     requires { depth ≤ 3 }
     ensures { result ≡ matches depth a.now b.now }
 {

@@ -162,9 +162,8 @@ impl<H: Hash32> HalfGraft<'_, '_, H> {
         let mut left = self.half.walk.numbers.len();
         while left > 0 {
             left -= 1;
-            if let Some(number) = self.half.walk.numbers[left] {
-                let visit = &self.half.walk.visits[number];
-                let info = self.new_info(visit, infos.as_slice());
+            if let Some(number) = self.half.walk.in_spot(left) {
+                let info = self.new_info(self.half.at(number), infos.as_slice());
                 infos[number] = info;
             }
         }
@@ -179,7 +178,7 @@ impl<H: Hash32> HalfGraft<'_, '_, H> {
     {
         let mut own = Own::new(alloc);
         for number in 0..self.half.walk.visits.len() {
-            let visit = &self.half.walk.visits[number];
+            let visit = self.half.at(number);
             let shown = self.half.bag.face(visit.node.entry);
             if is_hidden(shown, shown_info(self.half.bag, visit), visit.node.depth) {
                 continue;

@@ -1,6 +1,6 @@
-ghost use Rattle.std.specs.Prelude.{◌≡◌, ◌<◌, All, IfOk};
+ghost use Rattle.std.specs.Prelude.{◌≡◌, ◌<◌, length, All, Contains, IfOk};
 ghost use Rattle.cd_update.specs.Nodes.{IsShown};
-ghost use Rattle.cd_update.specs.Visits.{IsHalf, IsWalked};
+ghost use Rattle.cd_update.specs.Visits.{visit_at, IsHalf, IsWalked};
 
 use crate::update::Update;
 use crate::visit::Visit;
@@ -26,6 +26,16 @@ impl<H: Hash32> HalfWalk<'_, H> {
         ensures shown { All (IsShown H.digest_of self.now.bag.now) result.now }
     {
         self.walk.visits.as_slice()
+    }
+
+    /// The visit of a number.
+    pub fn at(&self, number: usize) -> &Visit
+        requires { number < length self.now.walk.visits.items }
+        ensures value { result.now ≡ visit_at self.now.walk.visits.items number }
+        ensures there { Contains self.now.walk.visits.items result.now }
+        ensures shown { IsShown H.digest_of self.now.bag.now result.now }
+    {
+        &self.walk.visits[number]
     }
 }
 

@@ -47,6 +47,16 @@ impl Walk {
         self.numbers[4 * node.entry as usize + node.depth as usize]
     }
 
+    /// The number of the visit that a spot is of.
+    pub fn in_spot(&self, place: usize) -> Option<usize>
+        requires { place < length self.now.numbers.items }
+        ensures value { result ≡ slice_index_or self.now.numbers.items place None }
+        ensures visit { (k : ℕ) → result ≡ Some k
+            → (k < length self.now.visits.items) × (spot (visit_at self.now.visits.items k).node ≡ place) }
+    {
+        self.numbers[place]
+    }
+
     /// One visit more, where the entry wasn't visited at this depth.
     fn add(&mut self, visit: Visit) -> Result<bool, Memory>
         requires depth { visit.node.depth ≤ 3 }

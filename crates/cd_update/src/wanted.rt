@@ -67,7 +67,7 @@ impl<H: Hash32> Update<'_, H> {
 }
 
 /// All visits but the first one.
-fn behind_first(visits: &[Visit]) -> &[Visit]
+pub(crate) fn behind_first(visits: &[Visit]) -> &[Visit]
     requires { 0 < length visits.now }
     ensures { result.now ≡ drop 1 visits.now }
 {

@@ -1,183 +1,15 @@
+use crate::bags::{
+    BYTE, Cell, Due, Shape, Shown, Stem, bag_of, bag_of_text, face_of, faces_of, fault_of,
+    found_of, hashes_in, hashes_of, info_of, infos_of, put, weak,
+};
 use cd_base::Hash256;
 use cd_boc_read::read_bag;
-use cd_cell::{Bag, Bits, ChildInfo, Face, Hash32, Mask, NewCell, Sha, WeakSum};
+use cd_cell::{Bag, ChildInfo, Face, Mask, NewCell, Sha, WeakSum};
 use cd_prepare::{PrepareFault, prepare_update, prepare_zero};
 use cd_update::{GraftFault, PairFault, Update, UpdateFault, graft, pair_old};
 use std::alloc::{AllocError, Global};
 use std::process::Abort;
 use std::test::Fail;
-
-// ---- bags by their cells, over the weak hash, which is told by its last byte
-
-// The bytes of a cell.
-#[derive(Clone, Copy)]
-enum Stem {
-    Bytes(&'static [u8]),
-    // A pruned branch of a mask of one bit, for a cell of this hash and of depth 0.
-    Pruned(u8, u8),
-    // A proof that states this hash and the depth 0.
-    Proof(u8),
-    // An update that states these hashes, old and new, and these depths.
-    Update(u8, u8, u8, u8),
-}
-
-// A cell as its text has it: the first byte (the number of its children, 8 where it is exotic, 32 times its mask), its
-// bytes, and the numbers of its children.
-#[derive(Clone, Copy)]
-struct Cell(u8, Stem, &'static [u16]);
-
-fn bytes_of(alloc: Global, stem: &Stem) -> Result<Vec<u8>, AllocError> {
-    match *stem {
-        Stem::Bytes(bytes) => bytes.to_vec(alloc),
-        Stem::Pruned(mask, hash) => ending(alloc, &[1, mask], 36, &[(33, hash)]),
-        Stem::Proof(hash) => ending(alloc, &[3], 35, &[(32, hash)]),
-        Stem::Update(old, new, old_depth, new_depth) => ending(
-            alloc,
-            &[4],
-            69,
-            &[(32, old), (64, new), (66, old_depth), (68, new_depth)],
-        ),
-    }
-}
-
-// So many bytes: these first ones, these in their places, and zeros.
-fn ending(
-    alloc: Global,
-    first: &[u8],
-    count: usize,
-    places: &[(usize, u8)],
-) -> Result<Vec<u8>, AllocError> {
-    let mut bytes = Vec::new(alloc);
-    for at in 0..count {
-        let mut byte = first.get(at).copied().unwrap_or(0);
-        for (place, value) in places {
-            if *place == at {
-                byte = *value;
-            }
-        }
-        bytes.push(byte)?;
-    }
-    Ok(bytes)
-}
-
-fn put(text: &mut Vec<u8>, first: u8, bytes: &[u8], children: &[u16]) -> Result<(), AllocError> {
-    text.push(first)?;
-    text.push(u8::try_from(bytes.len()).unwrap_or(0).wrapping_mul(2))?;
-    text.extend_from_slice(bytes)?;
-    for child in children {
-        text.extend_from_slice(&child.to_be_bytes())?;
-    }
-    Ok(())
-}
-
-// The bag of so many cells with this text, of which so many from the first on are roots. Numbers and offsets take two
-// bytes.
-fn bag_of_text<H: Hash32>(
-    alloc: Global,
-    roots: u16,
-    count: u16,
-    text: &[u8],
-) -> Result<Bag<H>, Fail> {
-    let total = u16::try_from(text.len()).unwrap_or(0);
-    let mut bytes = [0xb5, 0xee, 0x9c, 0x72, 2, 2].to_vec(alloc)?;
-    for number in [count, roots, 0, total] {
-        bytes.extend_from_slice(&number.to_be_bytes())?;
-    }
-    for root in 0..roots {
-        bytes.extend_from_slice(&root.to_be_bytes())?;
-    }
-    bytes.extend_from_slice(text)?;
-    match read_bag(alloc, &bytes) {
-        Ok(bag) => Ok(bag),
-        Err(_) => Err(Fail::from("a bag")),
-    }
-}
-
-fn bag_of(alloc: Global, roots: u16, cells: &[Cell]) -> Result<Bag<WeakSum>, Fail> {
-    let mut text = Vec::new(alloc);
-    for cell in cells {
-        put(&mut text, cell.0, &bytes_of(alloc, &cell.1)?, cell.2)?;
-    }
-    let count = u16::try_from(cells.len()).unwrap_or(0);
-    bag_of_text(alloc, roots, count, &text)
-}
-
-fn weak(last: u8) -> Hash256 {
-    let mut bytes = [0; 32];
-    bytes[31] = last;
-    Hash256(bytes)
-}
-
-fn hashes_of(alloc: Global, lasts: &[u8]) -> Result<Vec<Hash256>, AllocError> {
-    let mut hashes = Vec::new(alloc);
-    for last in lasts {
-        hashes.push(weak(*last))?;
-    }
-    Ok(hashes)
-}
-
-// What a cell shows: one of mask 0 its hash and its depth, a pruned branch of mask 1 the hash that it states, for a
-// depth of 0, and its own.
-#[derive(Clone, Copy)]
-enum Shown {
-    Whole(u8, u16),
-    Hidden(u8, u8),
-}
-
-fn info_of(shown: Shown) -> ChildInfo {
-    match shown {
-        Shown::Whole(hash, depth) => ChildInfo {
-            mask: Mask::NONE,
-            hashes: [weak(hash); 4],
-            depths: [depth; 4],
-        },
-        Shown::Hidden(stated, own) => ChildInfo {
-            mask: Mask::of(1).unwrap_or(Mask::NONE),
-            hashes: [weak(stated), weak(own), weak(own), weak(own)],
-            depths: [0; 4],
-        },
-    }
-}
-
-fn infos_of(alloc: Global, all: &[Shown]) -> Result<Vec<ChildInfo>, AllocError> {
-    let mut infos = Vec::new(alloc);
-    for shown in all {
-        infos.push(info_of(*shown))?;
-    }
-    Ok(infos)
-}
-
-// A face: whether it is exotic, its bytes and how many bits of them, and what its children show.
-#[derive(Clone, Copy)]
-struct Shape(bool, Stem, u16, &'static [Shown]);
-
-fn face_of(alloc: Global, shape: &Shape) -> Result<Face, Fail> {
-    let bits = Bits::from_slice(&bytes_of(alloc, &shape.1)?, shape.2).ok_or("bits")?;
-    let kids = infos_of(alloc, shape.3)?;
-    if kids.len() > 4 {
-        return Err(Fail::from("at most four children"));
-    }
-    Ok(Face::new(shape.0, bits, &kids))
-}
-
-fn faces_of(alloc: Global, shapes: &[Shape]) -> Result<Vec<Face>, Fail> {
-    let mut faces = Vec::new(alloc);
-    for shape in shapes {
-        faces.push(face_of(alloc, shape)?)?;
-    }
-    Ok(faces)
-}
-
-fn found_of(alloc: Global, shapes: &[Option<Shape>]) -> Result<Vec<Option<Face>>, Fail> {
-    let mut found = Vec::new(alloc);
-    for shape in shapes {
-        match shape {
-            Some(shape) => found.push(Some(face_of(alloc, shape)?))?,
-            None => found.push(None)?,
-        }
-    }
-    Ok(found)
-}
 
 // ---- updates that are prepared
 
@@ -345,14 +177,6 @@ fn check_row(rt: &impl Abort, alloc: Global, row: &Row) -> Result<(), Fail> {
     Ok(())
 }
 
-fn hashes_in(alloc: Global, cells: &[NewCell]) -> Result<Vec<Hash256>, AllocError> {
-    let mut hashes = Vec::new(alloc);
-    for cell in cells {
-        hashes.push(cell.hash)?;
-    }
-    Ok(hashes)
-}
-
 #[test]
 fn what_updates_bring(rt: HostRuntime) -> Result<(), Fail> {
     let alloc = rt.alloc();
@@ -363,35 +187,6 @@ fn what_updates_bring(rt: HostRuntime) -> Result<(), Fail> {
 }
 
 // ---- updates that are refused
-
-#[derive(Clone, Copy)]
-enum Due {
-    OldHash(u8, u8),
-    OldDepth(u16, u16),
-    OldHalf(u8, Shape, Shape),
-    Foreign(u8),
-    NewClash(u8),
-}
-
-fn fault_of(alloc: Global, due: &Due) -> Result<PrepareFault, Fail> {
-    Ok(match due {
-        Due::OldHash(stated, real) => PrepareFault::OldHash {
-            stated: weak(*stated),
-            real: weak(*real),
-        },
-        Due::OldDepth(stated, real) => PrepareFault::OldDepth {
-            stated: *stated,
-            real: *real,
-        },
-        Due::OldHalf(hash, stored, shown) => PrepareFault::OldHalf {
-            hash: weak(*hash),
-            stored: face_of(alloc, stored)?,
-            shown: face_of(alloc, shown)?,
-        },
-        Due::Foreign(hash) => PrepareFault::Foreign { hash: weak(*hash) },
-        Due::NewClash(hash) => PrepareFault::NewClash { hash: weak(*hash) },
-    })
-}
 
 // An update over an old root and the faces beside its wanted hashes, and its fault.
 struct Refused {
@@ -411,8 +206,6 @@ const SHOWN: [Cell; 3] = [
     Cell(0, Stem::Bytes(&[1]), &[]),
     Cell(0, Stem::Bytes(&[0x10]), &[]),
 ];
-
-const BYTE: Shape = Shape(false, Stem::Bytes(&[1]), 8, &[]);
 
 const SIX: Shape = Shape(false, Stem::Bytes(&[0]), 6, &[]);
 
@@ -525,6 +318,8 @@ fn what_is_refused_of_updates(rt: HostRuntime) -> Result<(), Fail> {
     }
     Ok(())
 }
+
+// ---- bags that have no update
 
 // The number of roots, the cells, and the fault.
 const NO_UPDATES: [(u16, &[Cell], UpdateFault); 3] = [
@@ -730,6 +525,10 @@ fn each_fault_of_preparing_has_a_text(rt: HostRuntime) -> Result<(), Fail> {
         ),
         (Due::Foreign(1), "the new half hides an unknown cell"),
         (Due::NewClash(1), "two new cells of one hash"),
+        (
+            Due::SplitDeep(1025),
+            "two states that join to a depth of 1025",
+        ),
     ];
     for (due, text) in texts {
         check_text(&rt, alloc, &fault_of(alloc, &due)?, text)?;

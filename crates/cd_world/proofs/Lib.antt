@@ -1,3 +1,17 @@
 pub mod Held
 pub mod Puts
 pub mod Plain
+pub mod Replays
+pub mod Searches
+pub mod PinsStay
+pub mod Orders
+pub mod TidyWorlds
+pub mod ShownInfos
+pub mod EqualImages
+pub mod FitsStays
+pub mod MadeTrees
+pub mod CountLaws
+pub mod BesideHeld
+pub mod SoundWorlds
+pub mod OldInfos
+pub mod UnfoldedTrees

@@ -1,2 +1,17 @@
 pub mod World
 pub mod Image
+pub mod Standing
+pub mod Changes
+pub mod Machine
+pub mod Following
+pub mod Told
+pub mod Trail
+pub mod Unfolded
+pub mod Journals
+pub mod OldTrees
+pub mod ToldTrees
+pub mod OneImage
+pub mod Pinning
+pub mod Fitting
+pub mod Soundness
+pub mod Preparing

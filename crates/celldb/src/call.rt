@@ -1,13 +1,15 @@
-ghost use Rattle.std.specs.Prelude.{◌≡◌, IfSome, drop, map, string_bytes};
+ghost use Rattle.std.specs.Prelude.{◌≡◌, ◌≢◌, ℕ, List, None, IfSome, drop, map, string_bytes};
 ghost use Rattle.std.specs.Process.{exit_status};
 ghost use Rattle.cd_keeper.specs.Contents.{no_contents};
 ghost use Rattle.cd_top.specs.StatusText.{code_of};
-ghost use Rattle.celldb.specs.Runs.{HasSaid, IsRun};
+ghost use Rattle.cd_words.specs.Pages.{page_of};
+ghost use Rattle.celldb.specs.Runs.{HasSaid, IsRun, IsPage, PageEnds};
 
 use cd_base::{Sink, Source, write_all};
 use cd_cell::Hash32;
 use cd_keeper::Keeper;
 use cd_top::{Ended, Status, WordFault, celldb_once};
+use cd_words::{Page, page_of, page_text};
 use std::alloc::Global;
 use std::io::ErrorKind;
 use std::process::ExitCode;
@@ -40,7 +42,21 @@ pub fn end<E: Sink>(status: Status, err: &mut E) -> ExitCode
     ExitCode::from(status.code())
 }
 
-/// One run of the program over the objects of the outside, from its words to its exit status.
+/// Prints a page to standard output.
+fn show<O: Sink>(alloc: Global, page: Page, out: &mut O) -> Status
+    ensures { (text : List ℕ) × PageEnds O.Sink text out.old out.new result }
+{
+    match page_text(alloc, page) {
+        Err(_) => Status::Memory,
+        Ok(text) => match write_all(out, text.as_bytes()) {
+            Err(_) => Status::WriteFault,
+            Ok(()) => Status::Ok,
+        },
+    }
+}
+
+/// One run of the program over the objects of the outside, from its words to its exit status. Words that ask for a page
+/// are no call: the page is printed, and nothing else is asked.
 pub fn run<S: Source, O: Sink, E: Sink, K: Keeper, H: Hash32>(
     alloc: Global,
     words: &[String],
@@ -50,9 +66,15 @@ pub fn run<S: Source, O: Sink, E: Sink, K: Keeper, H: Hash32>(
     keeper: K,
 ) -> ExitCode
     requires empty { IfSome (K.held keeper) (λ contents. contents ≡ no_contents) }
-    ensures { IsRun H.digest_of S.Source O.Sink E.Sink K.Keeper (map string_bytes words.now)
+    ensures call { page_of (map string_bytes words.now) ≡ None
+        → IsRun H.digest_of S.Source O.Sink E.Sink K.Keeper (map string_bytes words.now)
         input.old input.new out.old out.new err.old err.new keeper (exit_status result) }
+    ensures page { page_of (map string_bytes words.now) ≢ None
+        → IsPage S.Source O.Sink E.Sink input.old input.new out.old out.new err.old err.new (exit_status result) }
 {
+    if let Some(page) = page_of(words) {
+        return end(show(alloc, page, out), err);
+    }
     let Ended {
         status,
         keeper: _,

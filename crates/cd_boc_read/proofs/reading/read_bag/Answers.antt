@@ -15,7 +15,7 @@ use Rattle.cd_boc_read.specs.CellFaults.{fault_of_texts}
 use Rattle.cd_boc_read.specs.BagFaults.{fault_in, bag_fault, Answers}
 use Rattle.cd_boc_read.proofs.BagRead.{bag_read, spelt-read}
 use Rattle.cd_boc_read.proofs.FrameLaws.{bag_at-found}
-use Rattle.cd_boc_read.proofs.PlaceLaws.{bag_counted}
+use Rattle.cd_boc_read.proofs.FrameFaults.{bag_counted}
 use Rattle.cd_boc_read.proofs.reading.read_bag.Goals as goal
 
 module _ (H : List ℕ → Hash256) (bytes : List ℕ) (fit : IsBytes bytes) (f : Frame) (ts : List Text) (read : bag_at bytes ≡ bag_read (f, ts)) where

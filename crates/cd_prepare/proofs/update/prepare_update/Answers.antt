@@ -7,22 +7,24 @@ use Rattle.cd_cell.specs.Levels.{info_of_face}
 use Rattle.cd_cell.specs.Listings.{known_infos, Fits, tree_of}
 use Rattle.cd_cell.specs.Updates.{found_in, known_of, grafted, new_cells}
 use Rattle.cd_cell.proofs.NewCells.{tree_of-new_cells}
-use Rattle.cd_update.specs.Grafts.{grafted_info}
+use Rattle.cd_update.specs.Grafts.{grafted_info, own_faces}
+use Rattle.cd_update.specs.Pairing.{pair_refusal}
 use Rattle.cd_update.specs.UpdateTrees as update
+use Rattle.cd_prepare.specs.Applied.{grafted_faces, new_faces}
 use Rattle.cd_update.proofs.HalfVisits.{update-tree}
 use Rattle.cd_prepare.proofs.NewLists.{Fits-faces, known-listed}
-use Rattle.cd_prepare.proofs.OwnFaces.{clear-faces, good-faces, valid-listing, root-is, kids-shown, root-shown}
-use Rattle.cd_prepare.proofs.UpdateLaws.{refused-pair, refused-graft, refused-none, refused-clash, clash-none, answer-pair, answer-graft, answer-none, answer-clash, applied-is, known-old, listed-new_cells}
+use Rattle.cd_prepare.proofs.OwnFaces.{WasHidden, clear-faces, good-faces, valid-listing, root-is, kids-shown, root-shown}
+use Rattle.cd_prepare.proofs.UpdateLaws.{each-face, refused-pair, refused-graft, refused-none, refused-clash, clash-none, answer-pair, answer-graft, answer-none, answer-clash, applied-is, known-old, listed-new_cells}
 use Rattle.cd_prepare.proofs.update.prepare_update.Goals as goal
 
 pub returns-in-Err-clause-exact : goal.returns-in-Err-clause-exact
-returns-in-Err-clause-exact g c t are = answer-pair g.H.Hash32.digest_of (update.tree_of c.args.update.now) t c.in-Err.fault c.from.result c.from.ensures (c.in-Err.ensures.refused_tree t are)
+returns-in-Err-clause-exact g c t are = answer-pair g.H.Hash32.digest_of (update.tree_of c.args.update.now) t (new_faces g.H.Hash32.digest_of (update.tree_of c.args.update.now) t) c.in-Err.fault c.from.result c.from.ensures (c.in-Err.ensures.refused_tree t are)
 
 pub returns-in-Err-graft-clause-exact : goal.returns-in-Err-graft-clause-exact
 returns-in-Err-graft-clause-exact g c t are =
     let H = g.H.Hash32.digest_of in
     let u = update.tree_of c.args.update.now in
-    answer-graft H u t (c.in-Ok.ensures.refused_tree t are) c.in-Err-graft.fault c.from-in-Err-graft.result c.from-in-Err-graft.ensures
+    answer-graft H u t (new_faces H u t) (c.in-Ok.ensures.refused_tree t are) c.in-Err-graft.fault c.from-in-Err-graft.result c.from-in-Err-graft.ensures
     (c.in-Err-graft.ensures.refused_tree (known_of H u t) (c.in-Ok.ensures.tree t are))
 
 pub new_cells-requires-clause-good : goal.new_cells-requires-clause-good
@@ -57,7 +59,7 @@ returns-in-Ok-new_cells-clause-exact g c t are =
     let H = g.H.Hash32.digest_of in
     let u = update.tree_of c.args.update.now in
     let known = c.in-Ok.ensures.tree t are in
-    answer-none H u t (c.in-Ok.ensures.refused_tree t are) (c.in-Ok-graft.ensures.refused_tree (known_of H u t) known) c.as_slice.result.now
+    answer-none H u t (new_faces H u t) (c.in-Ok.ensures.refused_tree t are) (c.in-Ok-graft.ensures.refused_tree (known_of H u t) known) c.as_slice.result.now
     (c.as_slice.ensures ∙ (c.in-Ok-graft.ensures.tree (known_of H u t) known).cells_are) c.in-Ok-new_cells.ensures.exact
 
 pub returns-clause-exact : goal.returns-clause-exact
@@ -65,7 +67,7 @@ returns-clause-exact g c t are =
     let H = g.H.Hash32.digest_of in
     let u = update.tree_of c.args.update.now in
     let known = c.in-Ok.ensures.tree t are in
-    answer-clash H u t (c.in-Ok.ensures.refused_tree t are) (c.in-Ok-graft.ensures.refused_tree (known_of H u t) known) c.as_slice.result.now
+    answer-clash H u t (new_faces H u t) (c.in-Ok.ensures.refused_tree t are) (c.in-Ok-graft.ensures.refused_tree (known_of H u t) known) c.as_slice.result.now
     (c.as_slice.ensures ∙ (c.in-Ok-graft.ensures.tree (known_of H u t) known).cells_are) c.in-Err-new_cells.fault c.in-Err-new_cells.ensures.exact
 
 pub returns-in-Ok-new_cells-clause-applied : goal.returns-in-Ok-new_cells-clause-applied
@@ -91,12 +93,12 @@ returns-in-Ok-new_cells-clause-applied g c t are =
     let root_made = c.new.ensures.root in
     let cells_made = c.new.ensures.cells in
     let root_is = root_made ∙ new.root_is in
-    let cells_are = cells_made ∙ listed-new_cells H (new_cells H u t) faces (c.as_slice.ensures ∙ new.cells_are) clear cells listed in
-    let shown : (k : ChildInfo) → ((f : FaceView) × Contains faces f × (info_of_face H f ≡ k)) ⊎ Contains known k → Contains (known_infos H cells (t ∷ [])) k =
+    let cells_are = cells_made ∙ listed-new_cells H (new_cells H u t) faces (each-face H (new_cells H u t) faces (c.as_slice.ensures ∙ new.cells_are)) clear cells listed in
+    let shown : (k : ChildInfo) → ((f : FaceView) × Contains faces f × (info_of_face H f ≡ k)) ⊎ WasHidden is known old none faces made k → Contains (known_infos H cells (t ∷ [])) k =
     λ k h.
     ⊎_elim
     (λ own. subst (Contains (known_infos H cells (t ∷ []))) own.2 (known-listed H faces cells listed (t ∷ []) own.0 own.1))
-    (λ there. known-old H u t known met cells k there)
+    (λ there. known-old H u t known met cells k there.0)
     h
     in
     record {
@@ -116,16 +118,16 @@ returns-in-Ok-new_cells-clause-applied g c t are =
     }
 
 pub returns-in-Err-clause-refused : goal.returns-in-Err-clause-refused
-returns-in-Err-clause-refused g c = refused-pair g.H.Hash32.digest_of (update.tree_of c.args.update.now) c.args.root.now c.args.faces.now c.in-Err.fault c.from.result c.from.ensures c.in-Err.ensures.refused
+returns-in-Err-clause-refused g c = refused-pair g.H.Hash32.digest_of (update.tree_of c.args.update.now) (pair_refusal g.H.Hash32.digest_of (update.tree_of c.args.update.now) c.args.root.now c.args.faces.now) (grafted_faces g.H.Hash32.digest_of (update.tree_of c.args.update.now)) c.in-Err.fault c.from.result c.from.ensures c.in-Err.ensures.refused
 
 pub returns-in-Err-graft-clause-refused : goal.returns-in-Err-graft-clause-refused
 returns-in-Err-graft-clause-refused g c =
-    refused-graft g.H.Hash32.digest_of (update.tree_of c.args.update.now) c.args.root.now c.args.faces.now c.in-Ok.ensures.refused c.in-Ok.known.infos c.in-Ok.ensures.infos c.in-Err-graft.fault c.from-in-Err-graft.result c.from-in-Err-graft.ensures c.in-Err-graft.ensures.refused
+    refused-graft g.H.Hash32.digest_of (update.tree_of c.args.update.now) (pair_refusal g.H.Hash32.digest_of (update.tree_of c.args.update.now) c.args.root.now c.args.faces.now) (grafted_faces g.H.Hash32.digest_of (update.tree_of c.args.update.now)) c.in-Ok.ensures.refused c.in-Ok.known.infos c.in-Ok.ensures.infos c.in-Err-graft.fault c.from-in-Err-graft.result c.from-in-Err-graft.ensures c.in-Err-graft.ensures.refused
 
 pub returns-in-Ok-new_cells-clause-refused : goal.returns-in-Ok-new_cells-clause-refused
 returns-in-Ok-new_cells-clause-refused g c =
-    refused-none g.H.Hash32.digest_of (update.tree_of c.args.update.now) c.args.root.now c.args.faces.now c.in-Ok.ensures.refused c.in-Ok.known.infos c.in-Ok.ensures.infos c.in-Ok-graft.ensures.refused c.as_slice.result.now (c.as_slice.ensures ∙ c.in-Ok-graft.ensures.cells) c.in-Ok-new_cells.ensures.exact
+    refused-none g.H.Hash32.digest_of (update.tree_of c.args.update.now) (pair_refusal g.H.Hash32.digest_of (update.tree_of c.args.update.now) c.args.root.now c.args.faces.now) (grafted_faces g.H.Hash32.digest_of (update.tree_of c.args.update.now)) c.in-Ok.ensures.refused c.in-Ok.known.infos c.in-Ok.ensures.infos c.in-Ok-graft.ensures.refused c.as_slice.result.now (c.as_slice.ensures ∙ c.in-Ok-graft.ensures.cells ∙ ap (λ ks. own_faces g.H.Hash32.digest_of ks (update.new_half_of c.args.update.now)) c.in-Ok.ensures.infos) c.in-Ok-new_cells.ensures.exact
 
 pub returns-clause-refused : goal.returns-clause-refused
 returns-clause-refused g c =
-    refused-clash g.H.Hash32.digest_of (update.tree_of c.args.update.now) c.args.root.now c.args.faces.now c.in-Ok.ensures.refused c.in-Ok.known.infos c.in-Ok.ensures.infos c.in-Ok-graft.ensures.refused c.as_slice.result.now (c.as_slice.ensures ∙ c.in-Ok-graft.ensures.cells) c.in-Err-new_cells.fault c.in-Err-new_cells.ensures.exact
+    refused-clash g.H.Hash32.digest_of (update.tree_of c.args.update.now) (pair_refusal g.H.Hash32.digest_of (update.tree_of c.args.update.now) c.args.root.now c.args.faces.now) (grafted_faces g.H.Hash32.digest_of (update.tree_of c.args.update.now)) c.in-Ok.ensures.refused c.in-Ok.known.infos c.in-Ok.ensures.infos c.in-Ok-graft.ensures.refused c.as_slice.result.now (c.as_slice.ensures ∙ c.in-Ok-graft.ensures.cells ∙ ap (λ ks. own_faces g.H.Hash32.digest_of ks (update.new_half_of c.args.update.now)) c.in-Ok.ensures.infos) c.in-Err-new_cells.fault c.in-Err-new_cells.ensures.exact

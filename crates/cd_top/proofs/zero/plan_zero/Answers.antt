@@ -23,14 +23,14 @@ returns g c = λ state lists.
     let H = g.H.Hash32.digest_of in
     let value = c.args.value.now in
     let order = c.in_ok-order.order.items in
-    let root = zero_id (rep_of H state) in
-    let id : c.id_of-id.result ≡ root = c.id_of-id.ensures ∙ ap zero_id (c.rep.ensures ∙ ap rep_of_info (c.root.ensures.value ∙ lists.whole.root_is)) in
+    let root = zero_id c.args.name (rep_of H state) in
+    let id : c.id_of-id.result ≡ root = c.id_of-id.ensures ∙ ap (zero_id c.args.name) (c.rep.ensures ∙ ap rep_of_info (c.root.ensures.value ∙ lists.whole.root_is)) in
     let height : c.height.result ≡ height_of H state = c.height.ensures ∙ ap height_of_info (c.root-2.ensures.value ∙ lists.whole.root_is) in
     let puts =
     rw c.deref-2.ensures.value at c.in_ok-puts.ensures
     ∙ puts-are H state lists.clear value.root value.cells lists.whole order c.in_ok-order.ensures root in
     let number = number-is H state lists.clear value.root value.cells lists.whole order c.in_ok-order.ensures root in
-    let count : c.len.result ≡ len (held_cells H (zero_world H state)) = omega (arith, c.len.ensures, number, c.in_ok-order.order.ok) in
+    let count : c.len.result ≡ len (held_cells H (zero_world H c.args.name state)) = omega (arith, c.len.ensures, number, c.in_ok-order.order.ok) in
     record {
       batch_is = c.in_ok-batch.ensures ∙ (λ i. record { put_cells = puts i; drop_cells = []; put_descs = (key_of (id i), descr_text (zero_descr (id i) (height i))) ∷ []; drop_descs = [] });
       text_is = c.in_ok-text.ensures ∙ (λ i. block_text (id i) (count i));

@@ -1,12 +1,11 @@
 -- A hidden visit wants nothing; a visible one is compared with what stands beside its hash.
-use Rattle.std.proofs.Common.{◌≡◌, ◌<◌, length, get_or, take, flat_map, None, Some, sym, ap, ap₂, ◌∙◌, arith}
+use Rattle.std.proofs.Common.{◌≡◌, ◌<◌, length, get_or, flat_map, None, Some, sym, ap, ◌∙◌, arith}
 use Rattle.cd_cell.specs.Equality.{same_hash}
-use Rattle.cd_cell.specs.Infos.{no_hash}
 use Rattle.cd_update.specs.EachOnce.{with_new, each_once, first_of}
 use Rattle.cd_update.specs.Visits.{visit_at, place_of, visited}
 use Rattle.cd_update.specs.Pairing.{beside, unlike, visible_hash, wanted_at, misfit_at}
 use Rattle.cd_update.proofs.PlaceLaws.{first_of-more, first_of-stop}
-use Rattle.cd_update.proofs.PairingLaws.{misfit_at-hidden, misfit_at-visible, wanted-hidden, wanted-visible, look-at, first-misfit}
+use Rattle.cd_update.proofs.PairingLaws.{misfit_at-hidden, wanted-hidden, wanted-visible, misfit-here, first-misfit}
 use Rattle.cd_update.proofs.pairing.check_visits.Goals as goal
 
 pub loop-visit-preserved-in_default : goal.loop-visit-preserved-in_default
@@ -31,18 +30,15 @@ returns-in-Some-unlike_face g c =
     let visits = c.args.visits.now in
     let faces = c.args.faces.now in
     let i = c.loop-visit.visit-index in
-    let hash = c.in-Some.hash in
-    let place = c.in-Ok.place in
-    let p = place_of bag (visit_at visits i).node in
-    let so_far = each_once same_hash (flat_map (wanted_at H) (visited bag (take i visits))) in
-    let look = beside (each_once same_hash (flat_map (wanted_at H) (visited bag visits))) faces in
+    let ask = misfit_at H (beside (each_once same_hash (flat_map (wanted_at H) (visited bag visits))) faces) in
     let in' : i < length visits = omega arith in
-    let some : visible_hash H p ≡ Some hash = sym c.hash_of_visible.ensures ∙ c.in-Some.is in
-    let grown = c.in-Ok.ensures.all ∙ ap (λ hs. with_new same_hash hs hash) c.loop-visit.invariant.all in
-    let found = look-at H bag visits i in' faces hash place some (omega (arith, c.in-Ok.ensures.below, ap length grown)) (ap (λ hs. get_or hs place no_hash) (sym grown) ∙ c.in-Ok.ensures.place) in
-    let here = misfit_at-visible H look p hash some ∙ ap₂ (λ o f. unlike p.depth hash o f) found c.face-shown.ensures.cell in
-    first-misfit c.in-Some-unlike_face.fault (unlike p.depth hash (get_or faces place None) c.face-shown.result.now) (first_of (misfit_at H look) (visited bag visits)) c.in-Some-unlike_face.ensures
-    (λ m e. first_of-stop bag visits i in' (misfit_at H look) c.loop-visit.invariant.agree m (here ∙ e))
+    let here =
+    misfit-here H bag visits i in' faces c.in-Some.hash c.in-Ok.place c.face-shown.result.now _
+    (c.in-Ok.ensures.all ∙ ap (λ hs. with_new same_hash hs c.in-Some.hash) c.loop-visit.invariant.all)
+    (sym c.hash_of_visible.ensures ∙ c.in-Some.is) c.in-Ok.ensures.below c.in-Ok.ensures.place c.face-shown.ensures.cell
+    in
+    first-misfit c.in-Some-unlike_face.fault (unlike (visit_at visits i).node.depth c.in-Some.hash (get_or faces c.in-Ok.place None) c.face-shown.result.now) (first_of ask (visited bag visits)) c.in-Some-unlike_face.ensures
+    (λ m e. first_of-stop bag visits i in' ask c.loop-visit.invariant.agree m (here ∙ e))
 
 pub loop-visit-preserved : goal.loop-visit-preserved
 loop-visit-preserved g c =
@@ -51,16 +47,12 @@ loop-visit-preserved g c =
     let visits = c.args.visits.now in
     let faces = c.args.faces.now in
     let i = c.loop-visit.visit-index in
-    let hash = c.in-Some.hash in
-    let place = c.in-Ok.place in
-    let p = place_of bag (visit_at visits i).node in
-    let look = beside (each_once same_hash (flat_map (wanted_at H) (visited bag visits))) faces in
+    let ask = misfit_at H (beside (each_once same_hash (flat_map (wanted_at H) (visited bag visits))) faces) in
     let in' : i < length visits = omega arith in
-    let some : visible_hash H p ≡ Some hash = sym c.hash_of_visible.ensures ∙ c.in-Some.is in
-    let grown = c.in-Ok.ensures.all ∙ ap (λ hs. with_new same_hash hs hash) c.loop-visit.invariant.all in
-    let found = look-at H bag visits i in' faces hash place some (omega (arith, c.in-Ok.ensures.below, ap length grown)) (ap (λ hs. get_or hs place no_hash) (sym grown) ∙ c.in-Ok.ensures.place) in
-    let here = misfit_at-visible H look p hash some ∙ ap₂ (λ o f. unlike p.depth hash o f) found c.face-shown.ensures.cell in
+    let some : visible_hash H (place_of bag (visit_at visits i).node) ≡ Some c.in-Some.hash = sym c.hash_of_visible.ensures ∙ c.in-Some.is in
+    let grown = c.in-Ok.ensures.all ∙ ap (λ hs. with_new same_hash hs c.in-Some.hash) c.loop-visit.invariant.all in
+    let here = misfit-here H bag visits i in' faces c.in-Some.hash c.in-Ok.place c.face-shown.result.now _ grown some c.in-Ok.ensures.below c.in-Ok.ensures.place c.face-shown.ensures.cell in
     record {
-      all = grown ∙ sym (wanted-visible H bag visits i in' hash some);
-      agree = first_of-more bag visits i in' (misfit_at H look) c.loop-visit.invariant.agree ∙ here ∙ c.in_default-unlike_face.ensures;
+      all = grown ∙ sym (wanted-visible H bag visits i in' c.in-Some.hash some);
+      agree = first_of-more bag visits i in' ask c.loop-visit.invariant.agree ∙ here ∙ c.in_default-unlike_face.ensures;
     }

@@ -1,0 +1,11 @@
+-- Trusted: how a call's answer raises a keeper's count of faults.
+use Rattle.std.specs.Prelude.{ℕ, Result, Ok, Err}
+use Rattle.cd_base.specs.Counts.{one_more}
+use Rattle.cd_keeper.specs.declared.fault.KeepFault.{KeepFault}
+use Rattle.cd_keeper.specs.declared.fault.KeepFault.TheVariants.{Failed, Memory}
+
+-- the count after a call: one more where it failed, and else the same
+abbrev pub count_after : {T : Type 0} → ℕ → Result T KeepFault → ℕ
+count_after count (Ok value) = count
+count_after count (Err Failed) = one_more count
+count_after count (Err Memory) = count

@@ -1,0 +1,139 @@
+use crate::statements::{Statements, TableStatements, fault_of};
+use cd_keeper::{Batch, KeepFault};
+use sqlite::{Connection, Error, Row, Statement, Transaction, params};
+use sqlite_trees::store::Alter;
+
+/// A row of one of the tables: its key and its value.
+pub type KeyAndValue = (Vec<u8>, Vec<u8>);
+
+/// What the keeper asks of its database. Each refusal for another cause than memory is `Failed`.
+pub trait Database: Drop {
+    /// The value under a key, if there is one.
+    fn value(&mut self, get: &Statement, key: &[u8]) -> Result<Option<Vec<u8>>, KeepFault>;
+
+    /// The row with the least key of all.
+    fn first_row(&mut self, first: &Statement) -> Result<Option<KeyAndValue>, KeepFault>;
+
+    /// The row with the least key above another one.
+    fn next_row(
+        &mut self,
+        next: &Statement,
+        after: &[u8],
+    ) -> Result<Option<KeyAndValue>, KeepFault>;
+
+    /// Makes all of a batch in one transaction, or nothing.
+    fn write(&mut self, statements: &Statements, batch: &Batch) -> Result<(), KeepFault>;
+}
+
+impl<S: Alter + Drop> Database for Connection<S> {
+    fn value(&mut self, get: &Statement, key: &[u8]) -> Result<Option<Vec<u8>>, KeepFault> {
+        match get.query_row(self, params![key]) {
+            Ok(row) => match row.get(0) {
+                Ok(value) => Ok(Some(value)),
+                Err(error) => Err(fault_of(error)),
+            },
+            Err(Error::QueryReturnedNoRows) => Ok(None),
+            Err(error) => Err(fault_of(error)),
+        }
+    }
+
+    fn first_row(&mut self, first: &Statement) -> Result<Option<KeyAndValue>, KeepFault> {
+        row_of(first.query_row(self, &[]))
+    }
+
+    fn next_row(
+        &mut self,
+        next: &Statement,
+        after: &[u8],
+    ) -> Result<Option<KeyAndValue>, KeepFault> {
+        row_of(next.query_row(self, params![after]))
+    }
+
+    fn write(&mut self, statements: &Statements, batch: &Batch) -> Result<(), KeepFault> {
+        if !self.is_autocommit() {
+            return Err(KeepFault::Failed);
+        }
+        // Where it is dropped before its commit it rolls back.
+        let mut transaction = self.transaction();
+        fill(&mut transaction, statements, batch)?;
+        match transaction.commit() {
+            Ok(()) => Ok(()),
+            Err(error) => Err(fault_of(error)),
+        }
+    }
+}
+
+fn row_of(found: Result<Row, Error>) -> Result<Option<KeyAndValue>, KeepFault> {
+    let row = match found {
+        Ok(row) => row,
+        Err(Error::QueryReturnedNoRows) => return Ok(None),
+        Err(error) => return Err(fault_of(error)),
+    };
+    match key_and_value(&row) {
+        Ok(both) => Ok(Some(both)),
+        Err(error) => Err(fault_of(error)),
+    }
+}
+
+fn key_and_value(row: &Row) -> Result<KeyAndValue, Error> {
+    let key = row.get(0)?;
+    let value = row.get(1)?;
+    Ok((key, value))
+}
+
+fn fill<S: Alter>(
+    transaction: &mut Transaction<'_, S>,
+    statements: &Statements,
+    batch: &Batch,
+) -> Result<(), KeepFault> {
+    for key in batch.drop_cells() {
+        drop_row(transaction, &statements.cells, &key.0)?;
+    }
+    for (key, record) in batch.put_cells() {
+        put_row(transaction, &statements.cells, &key.0, record.as_slice())?;
+    }
+    for key in batch.drop_descs() {
+        drop_row(transaction, &statements.descs, key)?;
+    }
+    for (key, value) in batch.put_descs() {
+        put_row(transaction, &statements.descs, key, value.as_slice())?;
+    }
+    Ok(())
+}
+
+/// Writes a row anew where its key is held, which costs a quarter of taking it out and in, and else puts it in.
+fn put_row<S: Alter>(
+    transaction: &mut Transaction<'_, S>,
+    table: &TableStatements,
+    key: &[u8],
+    value: &[u8],
+) -> Result<(), KeepFault> {
+    if run(transaction, &table.update, key, value)? == 0 {
+        run(transaction, &table.insert, key, value)?;
+    }
+    Ok(())
+}
+
+/// How many rows a statement changed.
+fn run<S: Alter>(
+    transaction: &mut Transaction<'_, S>,
+    statement: &Statement,
+    key: &[u8],
+    value: &[u8],
+) -> Result<usize, KeepFault> {
+    match transaction.execute_prepared(statement, params![key, value]) {
+        Ok(count) => Ok(count),
+        Err(error) => Err(fault_of(error)),
+    }
+}
+
+fn drop_row<S: Alter>(
+    transaction: &mut Transaction<'_, S>,
+    table: &TableStatements,
+    key: &[u8],
+) -> Result<(), KeepFault> {
+    match transaction.execute_prepared(&table.drop_row, params![key]) {
+        Ok(_) => Ok(()),
+        Err(error) => Err(fault_of(error)),
+    }
+}

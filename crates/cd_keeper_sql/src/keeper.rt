@@ -1,0 +1,167 @@
+ghost use Rattle.std.specs.Prelude.{◌≡◌, IsTrue, IfOk, IfSome};
+ghost use Rattle.std.specs.Option.{option_map};
+ghost use Rattle.cd_keeper.specs.Contents.{is_above};
+ghost use Rattle.cd_keeper.specs.Shown.{hash_bytes};
+ghost use Rattle.cd_keeper_sql.specs.Counting.{count_after};
+
+use crate::database::{Database, KeyAndValue};
+use crate::keys::{desc_key_above, hash_above};
+use crate::statements::{Statements, fault_of};
+use cd_base::Hash256;
+use cd_keeper::{Batch, KeepFault, Keeper};
+use sqlite::Connection;
+use sqlite_std_file::File;
+use sqlite_store::FileStore;
+
+/// A keeper over a database, which tells nothing of its contents. Over a file it can be moved to another thread.
+#[derive(Drop)]
+pub struct SqlKeeperOver<C: Database> {
+    database: C,
+    statements: Statements,
+    batches: u64,
+    faults: u64,
+    reads: u64,
+}
+
+/// A keeper over a database file.
+pub type SqlKeeper = SqlKeeperOver<Connection<FileStore<File>>>;
+
+impl SqlKeeper {
+    /// Opens the file at a path, or makes it, and makes both tables where they aren't there. `Failed` where the
+    /// database refuses: a file that is no database, say, or a table of other columns.
+    pub fn open(rt: &HostRuntime, path: &str) -> Result<SqlKeeper, KeepFault> {
+        let mut database = match Connection::open(rt, path) {
+            Ok(database) => database,
+            Err(error) => return Err(fault_of(error)),
+        };
+        let statements = Statements::prepare(&mut database)?;
+        Ok(SqlKeeperOver::new(database, statements))
+    }
+}
+
+impl<C: Database> SqlKeeperOver<C> {
+    /// A keeper over a database and the statements that were prepared for it.
+    pub fn new(database: C, statements: Statements) -> SqlKeeperOver<C>
+        ensures { (result.batches ≡ 0) × (result.faults ≡ 0) × (result.reads ≡ 0) }
+    {
+        SqlKeeperOver {
+            database,
+            statements,
+            batches: 0,
+            faults: 0,
+            reads: 0,
+        }
+    }
+}
+
+/// Raises a count of faults where a call failed.
+fn count_fault<T>(faults: &mut u64, answer: &Result<T, KeepFault>)
+    ensures { faults.new ≡ count_after faults.old answer.now }
+{
+    if let Err(KeepFault::Failed) = answer {
+        *faults = faults.saturating_add(1);
+    }
+}
+
+/// The row of a cell, where its key is one.
+fn cell_of(
+    after: &Option<Hash256>,
+    row: Result<Option<KeyAndValue>, KeepFault>,
+) -> Result<Option<(Hash256, Vec<u8>)>, KeepFault>
+    ensures { IfOk result (λ found. IfSome found
+        (λ entry. IsTrue (is_above (option_map hash_bytes after.now) entry.0.0))) }
+{
+    match row {
+        Ok(Some((key, record))) => match hash_above(after, key.as_slice()) {
+            Some(hash) => Ok(Some((hash, record))),
+            None => Err(KeepFault::Failed),
+        },
+        Ok(None) => Ok(None),
+        Err(fault) => Err(fault),
+    }
+}
+
+/// The row of a description, where its key is one.
+fn desc_of(
+    after: &Option<[u8; 80]>,
+    row: Result<Option<KeyAndValue>, KeepFault>,
+) -> Result<Option<([u8; 80], Vec<u8>)>, KeepFault>
+    ensures { IfOk result (λ found. IfSome found
+        (λ entry. IsTrue (is_above after.now entry.0))) }
+{
+    match row {
+        Ok(Some((key, value))) => match desc_key_above(after, key.as_slice()) {
+            Some(key) => Ok(Some((key, value))),
+            None => Err(KeepFault::Failed),
+        },
+        Ok(None) => Ok(None),
+        Err(fault) => Err(fault),
+    }
+}
+
+impl<C: Database> Keeper for SqlKeeperOver<C> {
+    ghost use Rattle.std.specs.Prelude.{None};
+
+    ghost held = { λ _. None };
+
+    ghost trail = { λ _. None };
+
+    ghost batches = { λ keeper. keeper.batches };
+
+    ghost faults = { λ keeper. keeper.faults };
+
+    ghost reads = { λ keeper. keeper.reads };
+
+    fn get_cell(&mut self, key: &Hash256) -> Result<Option<Vec<u8>>, KeepFault> {
+        self.reads = self.reads.saturating_add(1);
+        let found = self.database.value(&self.statements.cells.get, &key.0);
+        count_fault(&mut self.faults, &found);
+        found
+    }
+
+    fn next_cell(
+        &mut self,
+        after: Option<Hash256>,
+    ) -> Result<Option<(Hash256, Vec<u8>)>, KeepFault> {
+        self.reads = self.reads.saturating_add(1);
+        let table = &self.statements.cells;
+        let row = match &after {
+            Some(key) => self.database.next_row(&table.next, &key.0),
+            None => self.database.first_row(&table.first),
+        };
+        let found = cell_of(&after, row);
+        count_fault(&mut self.faults, &found);
+        found
+    }
+
+    fn get_desc(&mut self, key: &[u8; 80]) -> Result<Option<Vec<u8>>, KeepFault> {
+        self.reads = self.reads.saturating_add(1);
+        let found = self.database.value(&self.statements.descs.get, key);
+        count_fault(&mut self.faults, &found);
+        found
+    }
+
+    fn next_desc(
+        &mut self,
+        after: Option<[u8; 80]>,
+    ) -> Result<Option<([u8; 80], Vec<u8>)>, KeepFault> {
+        self.reads = self.reads.saturating_add(1);
+        let table = &self.statements.descs;
+        let row = match &after {
+            Some(key) => self.database.next_row(&table.next, key),
+            None => self.database.first_row(&table.first),
+        };
+        let found = desc_of(&after, row);
+        count_fault(&mut self.faults, &found);
+        found
+    }
+
+    fn apply(&mut self, batch: &Batch) -> Result<(), KeepFault> {
+        let done = self.database.write(&self.statements, batch);
+        count_fault(&mut self.faults, &done);
+        if done.is_ok() {
+            self.batches = self.batches.saturating_add(1);
+        }
+        done
+    }
+}

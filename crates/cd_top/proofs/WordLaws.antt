@@ -1,0 +1,83 @@
+-- Which words are taken.
+use Rattle.std.proofs.Common.{◌≡◌, ◌≢◌, ℕ, ℤ, List, None, Result, Ok, Err, IfErr, refl, sym, ap, subst, inl, inr}
+use Rattle.cd_base.specs.declared.source.Source.{Ghosts as SourceGhosts}
+use Rattle.cd_base.specs.declared.sink.Sink.{Ghosts as SinkGhosts}
+use Rattle.cd_keeper.specs.declared.keeper.Keeper.{Ghosts as KeeperGhosts}
+use Rattle.cd_base.specs.declared.hash.Hash256.{Hash256}
+use Rattle.cd_words.specs.declared.command.Command.{Command}
+use Rattle.cd_words.specs.declared.command.Command.TheVariants as command
+use Rattle.cd_words.specs.declared.fault.WordFault.{WordFault}
+use Rattle.cd_words.specs.declared.fault.WordFault.TheVariants as word
+use Rattle.cd_words.specs.Reading.{HasCommand, IsRefusal}
+use Rattle.cd_words.proofs.CommandLaws.{zero_alone, refused_alone}
+use Rattle.cd_top.specs.declared.zero.ZeroName.{ZeroName}
+use Rattle.cd_top.specs.declared.status.Status.{Status}
+use Rattle.cd_top.specs.declared.status.Status.TheVariants as status
+use Rattle.cd_top.specs.Call.{IsZeroLine, IsNotTaken, EndsUntaken, Ends, status_by}
+use Rattle.cd_top.specs.ZeroCall.{AreSame, ZeroEnds}
+use Rattle.cd_top.proofs.OnceLaws.{kept-same}
+
+abbrev zero_of : ZeroName → Command
+zero_of name = command.Zero name.workchain name.file None
+
+untaken-refused : (words : List (List ℕ)) (fault : WordFault) → fault ≢ word.Memory → IsRefusal words fault → IsNotTaken words fault
+untaken-refused words fault other refused =
+    record { cause = inl refused; none = λ name line. other (refused_alone words fault (zero_of name) refused line) }
+
+untaken-other : (words : List (List ℕ)) (c : Command) → ((name : ZeroName) → c ≢ zero_of name) → HasCommand words c → IsNotTaken words word.Usage
+untaken-other words c other has =
+    record { cause = inr (refl, c, has); none = λ name line. other name (zero_alone words name.workchain name.file c line has) }
+
+-- words of `zero` say one name
+workchain_in : ZeroName → Command → ℤ
+workchain_in name (command.Zero workchain file db) = workchain
+workchain_in name _ = name.workchain
+
+file_in : ZeroName → Command → Hash256
+file_in name (command.Zero workchain file db) = file
+file_in name _ = name.file
+
+pub one_name : (words : List (List ℕ)) (a b : ZeroName) → IsZeroLine a words → IsZeroLine b words → a ≡ b
+unfolding workchain_in file_in
+one_name words a b has-a has-b =
+    let same : zero_of b ≡ zero_of a = zero_alone words a.workchain a.file (zero_of b) has-a has-b in
+    let w : b.workchain ≡ a.workchain = ap (workchain_in a) same in
+    let f : b.file ≡ a.file = ap (file_in a) same in
+    λ i. record { workchain = sym w i; file = sym f i }
+
+-- the status says so
+pub ends-by_refusal : (words : List (List ℕ)) (fault : WordFault) → IsRefusal words fault → EndsUntaken words (status_by fault)
+ends-by_refusal words word.Memory refused = tt
+ends-by_refusal words word.Usage refused = untaken-refused words word.Usage (λ e. cc) refused
+ends-by_refusal words (word.BadValue option) refused = untaken-refused words (word.BadValue option) (λ e. cc) refused
+
+pub ends-by_other : (words : List (List ℕ)) (c : Command) (r : Result ZeroName Status) → HasCommand words c
+    → IfErr r (λ end. (end ≡ status.Usage word.Usage) × ((name : ZeroName) → c ≢ zero_of name)) → IfErr r (EndsUntaken words)
+ends-by_other words c (Ok name) has h = tt
+ends-by_other words c (Err end) has h = subst (EndsUntaken words) (sym h.0) (untaken-other words c h.1 has)
+
+module _ (H : List ℕ → Hash256) {S O K : Type 0} (s : SourceGhosts S) (o : SinkGhosts O) (k : KeeperGhosts K) (words : List (List ℕ)) (i : S) (out : O) (keeper : K) where
+  same : AreSame out out keeper keeper
+  same = record { sink = refl; keeper = refl }
+
+  untaken-zero : (end : Status) → EndsUntaken words end → (name : ZeroName) → IsZeroLine name words → ZeroEnds H s o k name i i out out keeper keeper end
+  untaken-zero status.Memory ends name line = (refl, kept-same H name s o k i i out out keeper keeper same, refl)
+  untaken-zero (status.Usage fault) ends name line = absurd (ends.none name line)
+  untaken-zero status.Ok ends name line = absurd ends
+  untaken-zero (status.BadInput fault) ends name line = absurd ends
+  untaken-zero status.ReadFault ends name line = absurd ends
+  untaken-zero status.WriteFault ends name line = absurd ends
+  untaken-zero status.KeeperFault ends name line = absurd ends
+  untaken-zero (status.Refused refusal) ends name line = absurd ends
+
+  -- a call over words that are not taken
+  pub ends-untaken : (end : Status) → EndsUntaken words end → Ends H s o k words i i out out keeper keeper end
+  ends-untaken end ends = record { zero = untaken-zero end ends; other = λ none. (ends, refl, same) }
+
+  -- a call over words of `zero`
+  pub ends-zero : (name : ZeroName) (j : S) (out_after : O) (keeper_after : K) (end : Status) → IsZeroLine name words
+      → ZeroEnds H s o k name i j out out_after keeper keeper_after end → Ends H s o k words i j out out_after keeper keeper_after end
+  ends-zero name j out_after keeper_after end line ends = record {
+    zero = λ other is. subst (λ n. ZeroEnds H s o k n i j out out_after keeper keeper_after end) (one_name words name other line is) ends;
+    other = λ none. absurd (none name line);
+  }

@@ -1,0 +1,5 @@
+pub mod ListLaws
+pub mod LineLaws
+pub mod ValueLaws
+pub mod PlainLaws
+pub mod CommandLaws

@@ -1,0 +1,2 @@
+/// How many live pins a worker may have.
+pub const MOST_PINS: u32 = 64;

@@ -1,0 +1,2 @@
+pub mod EndText
+pub mod Ends

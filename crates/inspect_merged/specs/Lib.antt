@@ -1,0 +1,2 @@
+pub mod BothStates
+pub mod MergedVerdicts

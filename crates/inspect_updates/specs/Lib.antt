@@ -1,0 +1,3 @@
+pub mod OldStates
+pub mod StateFaults
+pub mod UpdateVerdicts

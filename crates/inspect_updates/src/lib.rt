@@ -1,0 +1,12 @@
+//! What is said of Merkle updates of a state: what they bring, or why they are refused.
+#![tactic(auto)]
+
+mod old_state;
+mod refusal;
+mod texts;
+mod update_verdict;
+
+pub use old_state::{OldState, state_of_line};
+pub use refusal::Refusal;
+pub use texts::{push_state, updates_text};
+pub use update_verdict::{UpdateVerdict, update_verdict_of, update_verdict_of_line};
