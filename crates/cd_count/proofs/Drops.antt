@@ -1,5 +1,5 @@
 -- The worklist over the rows of a plan, and what the rows say when it ends.
-use Rattle.std.proofs.Common.{◌≡◌, ◌⊎◌, inl, inr, ℕ, zero, suc, ◌+◌, ◌<◌, ◌≤◌, Bool, true, false, cond, List, [], ◌∷◌, ◌++◌, map, take, get_or, length, length-append, Contains, Option, Some, None, refl, sym, ap, ◌∙◌, subst, arith, nat_eq}
+use Rattle.std.proofs.Common.{◌≡◌, inl, inr, ℕ, zero, suc, ◌+◌, ◌<◌, ◌≤◌, Bool, true, false, cond, List, [], ◌∷◌, ◌++◌, map, take, get_or, length, length-append, Contains, Option, Some, None, refl, sym, ap, ◌∙◌, subst, arith, nat_eq}
 use Rattle.std.specs.Option.{option_map, option_or, option_map_or}
 use Rattle.std.specs.Str.{bytes_eq}
 use Rattle.std.specs.Map.{lookup}
@@ -11,7 +11,7 @@ use Rattle.std.proofs.lemmas.List.Elements.{Contains-get_or}
 use Rattle.cd_base.specs.declared.hash.Hash256.{Hash256}
 use Rattle.cd_cell.specs.FaceView.{FaceView}
 use Rattle.cd_cell.specs.Infos.{rep_of_info}
-use Rattle.cd_cell.specs.Tree.{Tree, children, face_of, rep_of, info_of}
+use Rattle.cd_cell.specs.Tree.{Tree, children, face_of, info_of}
 use Rattle.cd_cell.specs.Export.{hash_cmp}
 use Rattle.cd_cell.proofs.Subtrees.{kids-face_of}
 use Rattle.cd_keeper.specs.Contents.{Contents}
@@ -25,12 +25,12 @@ use Rattle.cd_nodes.proofs.Held.{held_in, held_of}
 use Rattle.cd_nodes.proofs.Counts.{count-grown, clash_free-few, held_at-kept}
 use Rattle.cd_nodes.proofs.Records.{count-held, count-not_held}
 use Rattle.cd_nodes.proofs.Worklists.{underway-begun, underway-next, underway-ended}
-use Rattle.cd_world.specs.World.{Block, World, count_of}
+use Rattle.cd_world.specs.World.{Block, World}
 use Rattle.cd_count.specs.declared.rows.Row.{Row}
-use Rattle.cd_count.specs.Changes.{states, row_in, rep_bytes, cell_graph, held_under, AreTogether, AreCounted}
-use Rattle.cd_count.specs.PlanRows.{row_of, row_entry, rows_of}
+use Rattle.cd_count.specs.Changes.{states, row_in, rep_bytes, cell_graph, AreTogether, AreCounted, AreAdded}
+use Rattle.cd_count.specs.PlanRows.{row_of, rows_of}
 use Rattle.cd_count.specs.PlanSteps.{RowMap, first_row, fixed_part, row_at, count_of_row, count_at, fixed_at, left_in, kid_bytes, AreTaken}
-use Rattle.cd_count.specs.PlanWorlds.{record_of_cell, IsReadable, AreAdded, IsDropped}
+use Rattle.cd_count.specs.PlanWorlds.{record_of_cell, IsReadable, IsDropped}
 use Rattle.cd_count.specs.Reading.{stored_in}
 use Rattle.cd_count.proofs.CellGraph.{is_graph, clash_free, held_at-states, count-states}
 

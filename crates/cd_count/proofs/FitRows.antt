@@ -1,14 +1,13 @@
 -- Rows of which records can be written stay so.
-use Rattle.std.proofs.Common.{◌≡◌, ℕ, ◌-◌, ◌≤◌, Bool, true, false, cond, List, [], ◌∷◌, Option, Some, None, sym, ap, subst, arith}
+use Rattle.std.proofs.Common.{◌≡◌, ◌-◌, Bool, true, false, cond, List, [], ◌∷◌, Some, sym, subst, arith}
 use Rattle.std.specs.Map.{lookup, set_value}
-use Rattle.std.specs.Ordering.{is_eq, match_ordering}
-use Rattle.std.specs.declared.cmp.Ordering.{Ordering}
+use Rattle.std.specs.Ordering.{match_ordering}
 use Rattle.std.specs.declared.cmp.Ordering.TheVariants.{Less, Equal, Greater}
 use Rattle.std.specs.BTreeMap as tree
 use Rattle.cd_base.specs.declared.hash.Hash256.{Hash256}
 use Rattle.cd_cell.specs.Export.{hash_cmp}
 use Rattle.cd_count.specs.declared.rows.Row.{Row}
-use Rattle.cd_count.specs.PlanRows.{row_of, row_entry, rows_of, IsRowFit, AreRowsFit}
+use Rattle.cd_count.specs.PlanRows.{row_of, rows_of, IsRowFit, AreRowsFit}
 
 pub fit-lower : (r r' : Row) → r' ≡ record r { count = r.count - 1 } → IsRowFit (row_of r) → IsRowFit (row_of r')
 fit-lower r r' is fit = subst (λ (x : Row). IsRowFit (row_of x)) (sym is) (record { face = fit.face; few = let f = fit.few in omega arith })

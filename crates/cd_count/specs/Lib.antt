@@ -4,3 +4,4 @@ pub mod PlanRows
 pub mod PlanSteps
 pub mod PlanWorlds
 pub mod Reading
+pub mod SoundContents

@@ -1,11 +1,10 @@
 -- Trusted: a plan as contracts see it: a row for each hash that was looked at, in the order of the hashes.
-use Rattle.std.specs.Prelude.{◌≡◌, ℕ, ◌≤◌, List, map}
-use Rattle.std.specs.List.{AllByRecursion, IsDistinct, flat_map}
+use Rattle.std.specs.Prelude.{ℕ, ◌≤◌, List, map}
+use Rattle.std.specs.List.{AllByRecursion}
 use Rattle.cd_base.specs.declared.hash.Hash256.{Hash256}
-use Rattle.cd_block.specs.declared.block.BlockId.{BlockId}
 use Rattle.cd_block.specs.declared.description.Descr.{Descr}
 use Rattle.cd_block.specs.Block.{key_of}
-use Rattle.cd_block.specs.Description.{descr_text, IsDescrFit}
+use Rattle.cd_block.specs.Description.{descr_text}
 use Rattle.cd_cell.specs.Fit.{IsFaceFit}
 use Rattle.cd_cell.specs.FaceView.{FaceView}
 use Rattle.cd_record.specs.declared.limits.TheConstants.{GREATEST_COUNT}

@@ -1,13 +1,12 @@
 -- Inner: how the rows of a plan that is under way stand to what is stored.
-use Rattle.std.specs.Prelude.{◌≡◌, ℕ, ◌-◌, cond, nat_eq, List, [], ◌∷◌, ◌++◌, map, Option, Some, None, IfSome, Result, OnOk}
-use Rattle.std.specs.Option.{option_map, option_or, option_map_or}
+use Rattle.std.specs.Prelude.{◌≡◌, ℕ, cond, nat_eq, List, [], ◌∷◌, ◌++◌, map, Option, Some, None}
+use Rattle.std.specs.Option.{option_map, option_or}
 use Rattle.std.specs.Str.{bytes_eq}
 use Rattle.std.specs.BTreeMap as tree
 use Rattle.cd_base.specs.declared.hash.Hash256.{Hash256}
 use Rattle.cd_cell.specs.FaceView.{FaceView}
 use Rattle.cd_cell.specs.Infos.{rep_of_info}
 use Rattle.cd_cell.specs.Export.{hash_cmp}
-use Rattle.cd_keeper.specs.Contents.{Contents}
 use Rattle.cd_keeper.specs.Shown.{hash_bytes}
 use Rattle.cd_record.specs.declared.record.Record.{Record}
 use Rattle.cd_nodes.specs.Worklists.{Left, take_one, take_all}

@@ -1,5 +1,5 @@
--- Trusted: what the rows of a plan say of worlds.
-use Rattle.std.specs.Prelude.{◌≡◌, ℕ, List, [], map, Option}
+-- Inner: what the rows of a plan say of worlds while blocks go.
+use Rattle.std.specs.Prelude.{◌≡◌, ℕ, List, map}
 use Rattle.std.specs.Option.{option_map}
 use Rattle.cd_base.specs.declared.hash.Hash256.{Hash256}
 use Rattle.cd_cell.specs.Tree.{Tree, face_of}
@@ -8,7 +8,7 @@ use Rattle.cd_keeper.specs.Shown.{hash_bytes}
 use Rattle.cd_record.specs.declared.record.Record.{Record}
 use Rattle.cd_nodes.specs.Plans as plans
 use Rattle.cd_world.specs.World.{Block, World, count_of}
-use Rattle.cd_count.specs.Changes.{states, Rows, row_in, rep_bytes, cell_graph, held_under, AreTogether, AreNewCells, AreDeadCells, AreCounted}
+use Rattle.cd_count.specs.Changes.{states, row_in, rep_bytes, cell_graph, held_under, AreDeadCells}
 use Rattle.cd_count.specs.PlanRows.{rows_of}
 use Rattle.cd_count.specs.PlanSteps.{RowMap}
 use Rattle.cd_count.specs.Reading.{stored_in}
@@ -21,10 +21,6 @@ module _ (H : List ℕ → Hash256) where
   -- under each hash there is the record of the held cell, and none where no cell is held
   abbrev pub IsReadable : World → Contents → Type 0
   IsReadable world contents = (hash : List ℕ) → stored_in contents hash ≡ option_map (record_of_cell world hash) (held_under H world hash)
-
-  -- the rows have the references of the blocks that come, and nothing goes
-  abbrev pub AreAdded : World → World → List Block → List Tree → Rows → Type 0
-  AreAdded old grown come news rows = AreCounted H old grown grown come [] news [] rows
 
   -- the rows have the references that come and those that go, and these are the hashes of the dead cells
   pub record IsDropped (old grown : World) (come gone : List Block) (news : List Tree) (rows : RowMap) (dead : List Hash256)

@@ -1,10 +1,13 @@
 ghost use Rattle.std.specs.Prelude.{◌≡◌, ℕ, ◌+◌, ◌*◌, ◌≤◌, ◌++◌, List, [], map, length, IfSome, IfOk, OnOk};
 ghost use Rattle.cd_base.specs.declared.hash.Hash256.{Hash256};
 ghost use Rattle.cd_cell.specs.Tree.{Tree};
+ghost use Rattle.cd_cell.specs.Export.{AreClashFree};
 ghost use Rattle.cd_keeper.specs.Keeping.{KeepsHeld};
 ghost use Rattle.cd_world.specs.World.{World, Block};
 ghost use Rattle.cd_count.specs.Reading.{HasCountCause};
-ghost use Rattle.cd_count.specs.PlanWorlds.{IsReadable, AreAdded, IsDropped};
+ghost use Rattle.cd_count.specs.PlanWorlds.{IsReadable, IsDropped};
+ghost use Rattle.cd_count.specs.SoundContents.{AreSoundContents};
+ghost use Rattle.cd_world.specs.Told.{ToldWorld, shown};
 ghost use Rattle.std.specs.List.{IsDistinct, AllByRecursion};
 ghost use Rattle.std.specs.Option.{option_to_list};
 ghost use Rattle.std.specs.Map.{keys_of};
@@ -16,14 +19,13 @@ ghost use Rattle.cd_keeper.specs.NoKeyTwice.{same_key};
 ghost use Rattle.cd_keeper.specs.Shown.{entries_of, hash_bytes, desc_bytes};
 ghost use Rattle.cd_nodes.specs.Plans as plans;
 ghost use Rattle.cd_record.specs.RecordText.{record_text};
-ghost use Rattle.cd_count.specs.Changes.{states, rep_bytes, AreTogether, AreCounted, IsCellBatch};
+ghost use Rattle.cd_count.specs.Changes.{states, rep_bytes, AreTogether, AreCounted, AreAdded, IsCellBatch};
 ghost use Rattle.cd_count.specs.PlanRows.{row_of, rows_of, IsRowFit, AreRowsFit, descr_puts};
 
 use crate::count_fault::CountFault;
-use crate::rows::{Row, Rows, give_reference, list_cell, take_kids, take_references};
+use crate::rows::{Row, Rows, take_kids, take_references};
 use cd_base::{Hash256, Memory};
 use cd_block::{BlockId, Descr, encode_descr};
-use cd_cell::{Hash32, NewCell, Prepared};
 use cd_keeper::{Batch, Keeper};
 use cd_record::encode_cell;
 use std::alloc::Global;
@@ -54,7 +56,9 @@ impl Model for Plan {
 impl Plan {
     /// The plan that changes nothing. Takes no memory.
     pub fn empty(alloc: Global) -> Plan
-        ensures { result ≡ [] }
+        ensures empty { result ≡ [] }
+        ensures added { (H : List ℕ → Hash256) (world : World) → AreClashFree H (states world.blocks)
+            → AreAdded H world world [] [] result }
     {
         Plan {
             rows: BTreeMap::new(alloc),
@@ -154,78 +158,6 @@ fn keys_of(alloc: Global, ids: &[BlockId]) -> Result<Vec<[u8; 80]>, Memory>
     Ok(keys)
 }
 
-/// The counts once a block with the value's tree comes. Each listed cell is compared with what is stored; a cell that
-/// is stored already adds nothing to its children, and a new one adds one to each of its child places. Reads at most
-/// `5n + 1` records for n listed cells, and none twice.
-pub fn plan_add<K: Keeper, H: Hash32>(
-    alloc: Global,
-    keeper: &mut K,
-    prepared: &Prepared<H>,
-    limit: u64,
-) -> Result<Plan, CountFault> {
-    let cells = prepared.cells();
-    let mut rows = BTreeMap::new(alloc);
-    let mut held = Vec::with_capacity(alloc, cells.len())?;
-    if let Some(place) = list_cells(&mut rows, keeper, cells, &mut held)? {
-        return Err(clash_of(&rows, &cells[place]));
-    }
-    for (cell, held) in cells.iter().zip(held.iter()) {
-        if !*held {
-            for kid in cell.face.kids() {
-                give_reference(&mut rows, keeper, &kid.rep())?;
-            }
-        }
-    }
-    give_reference(&mut rows, keeper, &prepared.root().rep())?;
-    check_limit(&rows, limit)?;
-    Ok(Plan { rows })
-}
-
-/// Makes the rows of listed cells, notes which are stored already, and gives the place of the one with the least hash
-/// under which another is stored.
-fn list_cells<K: Keeper>(
-    rows: &mut Rows,
-    keeper: &mut K,
-    cells: &[NewCell],
-    held: &mut Vec<bool>,
-) -> Result<Option<usize>, CountFault> {
-    let mut least: Option<usize> = None;
-    for (place, cell) in cells.iter().enumerate() {
-        let (is_held, clashes) = list_cell(rows, keeper, cell)?;
-        held.push(is_held)?;
-        if clashes && least.is_none_or(|other| cell.hash < cells[other].hash) {
-            least = Some(place);
-        }
-    }
-    Ok(least)
-}
-
-/// The fault of a listed cell whose hash has another cell stored.
-fn clash_of(rows: &Rows, cell: &NewCell) -> CountFault {
-    let stored = match rows.get(&cell.hash) {
-        Some(row) => row.face,
-        None => cell.face,
-    };
-    CountFault::Clash {
-        hash: cell.hash,
-        stored,
-        offered: cell.face,
-    }
-}
-
-/// Refuses the least hash whose count rises over the limit.
-fn check_limit(rows: &Rows, limit: u64) -> Result<(), CountFault> {
-    for (hash, row) in rows.iter() {
-        if row.count > limit && row.count > row.stored.unwrap_or(0) {
-            return Err(CountFault::CountFull {
-                hash: *hash,
-                count: row.count,
-            });
-        }
-    }
-    Ok(())
-}
-
 /// The plan's counts once blocks with these roots go, one for each time that a root stands here. A cell whose count
 /// falls to nothing takes one reference from each of its child places, and goes. The plan is empty, or one that
 /// `plan_add` gave. Reads at most `5k + r` records for r roots and k cells that go, and none twice.
@@ -236,10 +168,10 @@ pub fn plan_drop<K: Keeper>(
     roots: &[Hash256],
 ) -> Result<Plan, CountFault>
     ensures dropped { IfOk result (λ after. IfSome (K.held keeper.old) (λ contents.
-        (H : List ℕ → Hash256) (old grown left : World) (come gone : List Block) (news : List Tree)
-        → IsReadable H old contents → AreAdded H old grown come news plan
+        (H : List ℕ → Hash256) (old : ToldWorld) (grown left : World) (come gone : List Block) (news : List Tree)
+        → AreSoundContents H old contents → AreAdded H (shown old) grown come news plan
         → AreTogether H left.blocks gone grown.blocks → map (rep_bytes H) (states gone) ≡ map hash_bytes roots.now
-        → (dead : List Tree) × AreCounted H old grown left come gone news dead after
+        → (dead : List Tree) × AreCounted H (shown old) grown left come gone news dead after
         × (K.reads keeper.new ≤ K.reads keeper.old + (length roots.now + 4 * length dead)))) }
     ensures keeps { KeepsHeld K.held K.trail K.batches keeper.old keeper.new }
     ensures cause { HasCountCause (K.faults keeper.old) (K.faults keeper.new) result }

@@ -12,8 +12,8 @@ ghost use Rattle.cd_count.specs.declared.rows.Row.{Row};
 ghost use Rattle.cd_count.specs.PlanRows.{row_of, rows_of, IsRowFit, AreRowsFit};
 
 use crate::count_fault::CountFault;
-use cd_base::{Hash256, Memory};
-use cd_cell::{Face, NewCell};
+use cd_base::Hash256;
+use cd_cell::Face;
 use cd_keeper::Keeper;
 use cd_record::{Record, decode};
 use std::alloc::{AllocError, Global};
@@ -54,53 +54,6 @@ fn first_row(found: Record) -> Row
         count: found.count,
         face: found.face,
     }
-}
-
-/// Makes the row of a listed cell. Tells whether it is stored already, and whether as another cell.
-pub fn list_cell<K: Keeper>(
-    rows: &mut Rows,
-    keeper: &mut K,
-    cell: &NewCell,
-) -> Result<(bool, bool), CountFault> {
-    let row = match read_record(keeper, &cell.hash)? {
-        Some(record) => first_row(record),
-        None => Row {
-            stored: None,
-            count: 0,
-            face: cell.face,
-        },
-    };
-    let held = row.stored.is_some();
-    let clashes = held && row.face != cell.face;
-    rows.insert(cell.hash, row)?;
-    Ok((held, clashes))
-}
-
-/// Gives a hash one reference more, where it is listed or stored.
-pub fn give_reference<K: Keeper>(
-    rows: &mut Rows,
-    keeper: &mut K,
-    hash: &Hash256,
-) -> Result<(), CountFault> {
-    if let Some(row) = rows.get_mut(hash) {
-        return Ok(raise(row)?);
-    }
-    let Some(record) = read_record(keeper, hash)? else {
-        return Ok(());
-    };
-    let mut row = first_row(record);
-    raise(&mut row)?;
-    rows.insert(*hash, row)?;
-    Ok(())
-}
-
-/// One reference more. No memory could list as many cells as it takes to pass the last u64.
-fn raise(row: &mut Row) -> Result<(), Memory> {
-    let Some(count) = row.count.checked_add(1) else {
-        return Err(Memory);
-    };
-    row.count = count;
-    Ok(())
 }
 
 /// Takes one reference of a hash away. Where it was the last, the hash goes behind the dead.

@@ -4,6 +4,4 @@
 #[cfg(test)]
 mod stores;
 #[cfg(test)]
-mod recount;
-#[cfg(test)]
 mod tests;

@@ -3,10 +3,10 @@
 use cd_base::Hash256;
 use cd_boc_read::read_bag;
 use cd_cell::{Bag, Hash32, Prepared};
-use cd_count::{CountFault, Plan, plan_add, plan_drop};
+use cd_count::{Plan, plan_drop};
 use cd_keeper::{Batch, Keeper, SteadyKeeper};
 use cd_prepare::prepare_zero;
-use cd_record::decode;
+use cd_record::{Record, decode, encode_v1};
 use std::alloc::Global;
 use std::test::Fail;
 
@@ -55,11 +55,8 @@ pub fn is_batch(batch: &Batch, puts: &[(Hash256, u64)], drops: &[Hash256]) -> bo
     if batch.put_cells().len() != puts.len() || batch.drop_cells() != drops {
         return false;
     }
-    batch
-        .put_cells()
-        .iter()
-        .zip(puts.iter())
-        .all(|(put, due)| put.0 == due.0 && count_in(put.1.as_slice()) == Some(due.1))
+    batch.put_cells().iter().zip(puts.iter()).all(|(put, due)| put.0 == due.0
+        && count_in(put.1.as_slice()) == Some(due.1))
 }
 
 /// The count of a record of version 2.
@@ -78,21 +75,21 @@ pub fn batch_of(alloc: Global, plan: Plan) -> Result<Batch, Fail> {
     }
 }
 
-/// Stores a state, and gives the batch that did, or the refusal.
-pub fn store<K: Keeper, H: Hash32>(
+/// Puts a record of version 1 of each cell of a state, with these counts.
+pub fn put_cells<H: Hash32>(
     alloc: Global,
-    keeper: &mut K,
-    prepared: &Prepared<H>,
-    limit: u64,
-) -> Result<Result<Batch, CountFault>, Fail> {
-    match plan_add(alloc, keeper, prepared, limit) {
-        Ok(plan) => {
-            let batch = batch_of(alloc, plan)?;
-            keeper.apply(&batch).ok().ok_or("no room")?;
-            Ok(Ok(batch))
-        }
-        Err(fault) => Ok(Err(fault)),
+    keeper: &mut SteadyKeeper,
+    state: &Prepared<H>,
+    counts: &[u64],
+) -> Result<(), Fail> {
+    for (cell, count) in state.cells().iter().zip(counts.iter()) {
+        let record = Record {
+            count: *count,
+            face: cell.face,
+        };
+        keeper.put_raw_cell(cell.hash, encode_v1(alloc, &record)?)?;
     }
+    Ok(())
 }
 
 /// Drops states with these roots, and gives the batch that did.
@@ -110,22 +107,4 @@ pub fn drop_all<K: Keeper>(
         }
         Err(_) => Err(Fail::from("no plan")),
     }
-}
-
-/// A further state replaces one with this root, in one batch.
-pub fn replace<K: Keeper, H: Hash32>(
-    alloc: Global,
-    keeper: &mut K,
-    prepared: &Prepared<H>,
-    root: Hash256,
-) -> Result<Batch, Fail> {
-    let Ok(added) = plan_add(alloc, keeper, prepared, 1000) else {
-        return Err(Fail::from("no plan"));
-    };
-    let Ok(plan) = plan_drop(alloc, keeper, added, &[root]) else {
-        return Err(Fail::from("no plan"));
-    };
-    let batch = batch_of(alloc, plan)?;
-    keeper.apply(&batch).ok().ok_or("no room")?;
-    Ok(batch)
 }

@@ -1,4 +1,4 @@
-use Rattle.std.proofs.Common.{◌≡◌, ℕ, ◌+◌, ◌<◌, ◌≤◌, List, [], map, length, Option, Some, IfSome, subst, ◌∙◌, arith}
+use Rattle.std.proofs.Common.{◌≡◌, ℕ, ◌+◌, ◌<◌, List, map, length, Option, Some, IfSome, subst, ◌∙◌, arith}
 use Rattle.cd_base.specs.declared.hash.Hash256.{Hash256}
 use Rattle.cd_cell.specs.Tree.{Tree}
 use Rattle.cd_keeper.specs.Contents.{Contents}
@@ -7,8 +7,8 @@ use Rattle.std.specs.BTreeMap as tree
 use Rattle.cd_cell.specs.Export.{hash_cmp}
 use Rattle.cd_world.specs.World.{World, Block}
 use Rattle.cd_count.specs.declared.rows.Row.{Row}
-use Rattle.cd_count.specs.Changes.{states, rep_bytes, AreTogether}
-use Rattle.cd_count.specs.PlanWorlds.{IsReadable, AreAdded, IsDropped}
+use Rattle.cd_count.specs.Changes.{states, rep_bytes, AreTogether, AreAdded}
+use Rattle.cd_count.specs.PlanWorlds.{IsReadable, IsDropped}
 use Rattle.cd_count.specs.PlanRows.{rows_of}
 use Rattle.cd_count.specs.PlanSteps.{RowMap, kid_bytes, AreTaken}
 use Rattle.cd_count.specs.Reading.{stored_in}

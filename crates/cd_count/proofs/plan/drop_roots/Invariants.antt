@@ -4,9 +4,9 @@ use Rattle.cd_cell.specs.Tree.{Tree}
 use Rattle.cd_keeper.specs.Keeping.{KeepsHeld}
 use Rattle.cd_keeper.specs.Shown.{hash_bytes}
 use Rattle.cd_world.specs.World.{World, Block}
-use Rattle.cd_count.specs.Changes.{states, rep_bytes, AreTogether}
+use Rattle.cd_count.specs.Changes.{states, rep_bytes, AreTogether, AreAdded}
 use Rattle.cd_count.specs.PlanRows.{rows_of, AreRowsFit}
-use Rattle.cd_count.specs.PlanWorlds.{IsReadable, AreAdded}
+use Rattle.cd_count.specs.PlanWorlds.{IsReadable}
 use Rattle.cd_count.proofs.Drops.{IsGoing}
 use Rattle.cd_count.proofs.plan.drop_roots.Given as goal
 

@@ -6,7 +6,7 @@ use Rattle.cd_block.specs.declared.block.BlockId.{BlockId}
 use Rattle.cd_block.specs.declared.description.Descr.{Descr}
 use Rattle.cd_block.specs.Block.{key_of}
 use Rattle.cd_keeper.specs.NoKeyTwice.{same_key}
-use Rattle.cd_keeper.specs.Shown.{entries_of, hash_bytes, desc_bytes}
+use Rattle.cd_keeper.specs.Shown.{entries_of, hash_bytes}
 use Rattle.cd_nodes.specs.Plans as plans
 use Rattle.cd_record.specs.RecordText.{record_text}
 use Rattle.cd_count.specs.PlanRows.{rows_of, descr_puts}
