@@ -1,5 +1,5 @@
 -- Trusted: cells as nodes whose keys are their hashes, and blocks that come and go.
-use Rattle.std.specs.Prelude.{◌≡◌, ℕ, ◌≤◌, List, map, Option}
+use Rattle.std.specs.Prelude.{◌≡◌, ℕ, ◌≤◌, List, [], map, Option}
 use Rattle.std.specs.Ordering.{nat_cmp}
 use Rattle.std.specs.Cmp.Lexicographic.{slice_cmp}
 use Rattle.std.specs.Str.{bytes_eq}
@@ -86,6 +86,10 @@ module _ (H : List ℕ → Hash256) where
     pub rows_are : plans.AreRows cell_graph (face_of H) (states old.blocks) (states come) (states grown.blocks)
         (states gone) news dead (row_in rows)
     pub once : plans.HasNoKeyTwice (slice_cmp nat_cmp) rows
+
+  -- the rows have the references of the blocks that come, and nothing goes
+  abbrev pub AreAdded : World → World → List Block → List Tree → Rows → Type 0
+  AreAdded old grown come news rows = AreCounted old grown grown come [] news [] rows
 
   -- the batch leads from the descriptions of one world to those of another
   abbrev pub DescsLead : Change → World → World → Type 0

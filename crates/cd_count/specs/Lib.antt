@@ -1,2 +1,7 @@
 pub mod Changes
 pub mod Laws
+pub mod PlanRows
+pub mod PlanSteps
+pub mod PlanWorlds
+pub mod Reading
+pub mod SoundContents
