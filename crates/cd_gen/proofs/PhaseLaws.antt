@@ -1,17 +1,16 @@
 -- The phases of a generated feed without their bags, and their limits.
-use Rattle.std.proofs.Common.{◌≡◌, ℕ, ◌+◌, ◌-◌, ◌*◌, ◌/◌, ◌%◌, ◌^◌, ◌≤◌, ◌<◌, ◌==◌, nat_lt, Bool, true, false, List, [], ◌∷◌, ◌++◌, length, map, refl, sym, ap, ap₂, ◌∙◌, arith}
+use Rattle.std.proofs.Common.{◌≡◌, ℕ, ◌+◌, ◌-◌, ◌*◌, ◌/◌, ◌%◌, ◌^◌, ◌≤◌, ◌==◌, nat_lt, Bool, true, false, List, [], ◌∷◌, ◌++◌, length, map, refl, sym, ap, ap₂, ◌∙◌, arith}
 use Rattle.std.specs.Prelude.{if◌then◌else◌}
-use Rattle.std.specs.List.{range_with_len, sum_by, count_by, AllByRecursion}
+use Rattle.std.specs.List.{range_with_len, sum_by, AllByRecursion}
 use Rattle.std.proofs.lemmas.Bool.{ltb-false}
 use Rattle.std.proofs.lemmas.List.{map_push, length-map}
 use Rattle.std.proofs.lemmas.List.FromFn.{map-range_with_len_more, length-range_with_len}
 use Rattle.std.proofs.lemmas.List.Sums.{sum_by-append}
 use Rattle.cd_block.specs.Shard.{is_master}
 use Rattle.cd_block.specs.declared.block.BlockId.{BlockId}
-use Rattle.cd_feed.specs.declared.feed.Task.{Task}
-use Rattle.cd_feed.specs.declared.feed.Task.TheVariants.{Zero, Block, Expire, Read, Slice}
+use Rattle.cd_feed.specs.declared.feed.Task.TheVariants.{Expire, Read, Slice}
 use Rattle.cd_feed.specs.declared.feed.Phase.{Phase}
-use Rattle.cd_feed.specs.Feeds.{IsTopsFit, IsBagFit, IsPathFit, IsMaxFit, IsTaskFit, IsWorkerFit, IsPhaseFit, IsFeedFit, is_serve, worker_serves, phase_serves, feed_serves}
+use Rattle.cd_feed.specs.Feeds.{IsTopsFit, IsBagFit, IsPathFit, IsTaskFit, IsWorkerFit, IsPhaseFit, IsFeedFit, is_serve, worker_serves, phase_serves, feed_serves}
 use Rattle.cd_gen.specs.Generated.{block_id, shard_blocks, block_task, zero_phase, path_of, master_tasks, reading_tasks, expiring_tasks, block_phase, task_frame, phase_frame, feed_frame, frame_of, IsExport, HasExport, HasExports}
 
 -- ---- without bags

@@ -1,5 +1,5 @@
 -- Trusted: the feed of a number, but for its bags.
-use Rattle.std.specs.Prelude.{ℕ, ◌+◌, ◌-◌, ◌*◌, ◌/◌, ◌%◌, ◌^◌, ◌==◌, nat_lt, pos, negsuc, List, [], ◌∷◌, ◌++◌, ◌≡◌, All, map, replicate, if◌then◌else◌}
+use Rattle.std.specs.Prelude.{ℕ, ◌-◌, ◌*◌, ◌/◌, ◌%◌, ◌^◌, ◌==◌, nat_lt, pos, negsuc, List, [], ◌∷◌, ◌++◌, ◌≡◌, All, map, replicate, if◌then◌else◌}
 use Rattle.std.specs.List.{range_with_len, AllByRecursion}
 use Rattle.std.specs.Int.{w32, w64, to_be_bytes}
 use Rattle.cd_base.specs.declared.hash.Hash256.{Hash256}

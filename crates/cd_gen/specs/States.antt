@@ -1,5 +1,5 @@
 -- Trusted: the zero states of a generated feed as trees.
-use Rattle.std.specs.Prelude.{ℕ, zero, suc, ◌+◌, ◌*◌, ◌^◌, Bool, false, List, [], ◌∷◌, ◌++◌}
+use Rattle.std.specs.Prelude.{ℕ, zero, suc, ◌+◌, ◌^◌, false, List, [], ◌∷◌, ◌++◌}
 use Rattle.std.specs.Int.{w16, w32, w64, to_be_bytes}
 use Rattle.sha2.specs.Sha256.{sha256}
 use Rattle.cd_base.specs.declared.hash.Hash256.{Hash256}

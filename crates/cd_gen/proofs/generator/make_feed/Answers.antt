@@ -1,5 +1,4 @@
 use Rattle.std.proofs.Common.{◌≡◌, ◌+◌, ◌-◌, ◌++◌, ◌∷◌, [], ◌∙◌, ap, ap₂, subst, sym, arith}
-use Rattle.cd_feed.specs.declared.feed.Phase.{Phase}
 use Rattle.cd_gen.proofs.PhaseLaws.{AreSoFar, first_phase, next_phase, all_framed, all_exports, all_fit}
 use Rattle.cd_gen.proofs.generator.make_feed.Goals as goal
 
