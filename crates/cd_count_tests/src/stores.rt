@@ -12,10 +12,10 @@ use std::test::Fail;
 
 /// A cell: its bytes, and the numbers of its children, which stand behind it.
 #[derive(Clone, Copy)]
-pub struct Cell(pub &'static [u8], pub &'static [u8]);
+pub(crate) struct Cell(pub(crate) &'static [u8], pub(crate) &'static [u8]);
 
 /// The bytes of a bag of these cells, the first of which is the root.
-pub fn bytes_of(alloc: Global, cells: &[Cell]) -> Result<Vec<u8>, Fail> {
+pub(crate) fn bytes_of(alloc: Global, cells: &[Cell]) -> Result<Vec<u8>, Fail> {
     let mut text = Vec::new(alloc);
     for cell in cells {
         text.push(u8::try_from(cell.1.len()).unwrap_or(0))?;
@@ -31,7 +31,7 @@ pub fn bytes_of(alloc: Global, cells: &[Cell]) -> Result<Vec<u8>, Fail> {
 }
 
 /// The state with these cells, prepared.
-pub fn state<H: Hash32>(alloc: Global, cells: &[Cell]) -> Result<Prepared<H>, Fail> {
+pub(crate) fn state<H: Hash32>(alloc: Global, cells: &[Cell]) -> Result<Prepared<H>, Fail> {
     let bytes = bytes_of(alloc, cells)?;
     let bag: Bag<H> = match read_bag(alloc, bytes.as_slice()) {
         Ok(bag) => bag,
@@ -44,14 +44,14 @@ pub fn state<H: Hash32>(alloc: Global, cells: &[Cell]) -> Result<Prepared<H>, Fa
 }
 
 /// The weak hash of one byte.
-pub fn weak(byte: u8) -> Hash256 {
+pub(crate) fn weak(byte: u8) -> Hash256 {
     let mut hash = Hash256([0; 32]);
     hash.0[31] = byte;
     hash
 }
 
 /// Whether the batch puts exactly records of version 2 of these counts, in this order, and drops exactly these.
-pub fn is_batch(batch: &Batch, puts: &[(Hash256, u64)], drops: &[Hash256]) -> bool {
+pub(crate) fn is_batch(batch: &Batch, puts: &[(Hash256, u64)], drops: &[Hash256]) -> bool {
     if batch.put_cells().len() != puts.len() || batch.drop_cells() != drops {
         return false;
     }
@@ -68,7 +68,7 @@ fn count_in(bytes: &[u8]) -> Option<u64> {
 }
 
 /// The batch of a plan alone.
-pub fn batch_of(alloc: Global, plan: Plan) -> Result<Batch, Fail> {
+pub(crate) fn batch_of(alloc: Global, plan: Plan) -> Result<Batch, Fail> {
     match plan.into_batch(alloc, Vec::new(alloc), Vec::new(alloc)) {
         Ok(batch) => Ok(batch),
         Err(_) => Err(Fail::from("no batch")),
@@ -76,7 +76,7 @@ pub fn batch_of(alloc: Global, plan: Plan) -> Result<Batch, Fail> {
 }
 
 /// Puts a record of version 1 of each cell of a state, with these counts.
-pub fn put_cells<H: Hash32>(
+pub(crate) fn put_cells<H: Hash32>(
     alloc: Global,
     keeper: &mut SteadyKeeper,
     state: &Prepared<H>,
@@ -95,7 +95,7 @@ pub fn put_cells<H: Hash32>(
 }
 
 /// Drops states with these roots, and gives the batch that did.
-pub fn drop_all<K: Keeper>(
+pub(crate) fn drop_all<K: Keeper>(
     alloc: Global,
     keeper: &mut K,
     roots: &[Hash256],
