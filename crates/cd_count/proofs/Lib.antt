@@ -3,6 +3,9 @@ pub mod CellGraph
 pub mod Changes
 pub mod Drops
 pub mod FitRows
+pub mod Gives
+pub mod GoodRows
+pub mod Listing
 pub mod Nothing
 pub mod Readable
 pub mod Steps

@@ -1,5 +1,6 @@
 pub mod Changes
 pub mod Laws
+pub mod PlanGiving
 pub mod PlanRows
 pub mod PlanSteps
 pub mod PlanWorlds

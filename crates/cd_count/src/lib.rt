@@ -1,7 +1,9 @@
 //! Exact reference counts of stored cells, changed cell by cell as blocks come and go.
 #![tactic(auto)]
 
+mod adding;
 mod count_fault;
+mod giving;
 mod laws;
 mod plan;
 mod rows;

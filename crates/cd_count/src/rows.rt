@@ -46,7 +46,7 @@ pub fn read_record<K: Keeper>(keeper: &mut K, hash: &Hash256) -> Result<Option<R
 }
 
 /// The row of a stored cell before anything changes.
-fn first_row(found: Record) -> Row
+pub fn first_row(found: Record) -> Row
     ensures { result ≡ first_row found }
 {
     Row {
