@@ -33,19 +33,19 @@ module _ (stored : List ℕ → Option Record) (cells : List NewCell) (c : NewCe
 
   right-row : (o : Option Record) → stored c.hash.0 ≡ o → IsRowRight stored (c ∷ cells) c.hash.0 (listed_row o c.face)
   right-row None at = record {
-    stored = sym (ap (option_map (λ (x : Record). x.count)) at);
+    count = sym (ap (option_map (λ (x : Record). x.count)) at);
     face = λ x is. absurd (none-some x (sym at ∙ is));
     new = λ none. (c, Contains-first c cells, refl, refl);
   }
   right-row (Some r) at = record {
-    stored = sym (ap (option_map (λ (x : Record). x.count)) at);
+    count = sym (ap (option_map (λ (x : Record). x.count)) at);
     face = λ x is. ap (λ (y : Record). y.face) (same_Some r x (sym at ∙ is));
     new = λ none. absurd (none-some r (sym none ∙ at));
   }
 
   right-later : (q : List ℕ) (r : Row) → IsRowRight stored cells q r → IsRowRight stored (c ∷ cells) q r
   right-later q r was = record {
-    stored = was.stored;
+    count = was.count;
     face = was.face;
     new = λ none. let found = was.new none in (found.0, Contains-later c cells found.0 found.1, found.2, found.3);
   }
@@ -68,7 +68,7 @@ module _ (stored : List ℕ → Option Record) (cells : List NewCell) (c : NewCe
       there : (x : NewCell) (b : Bool) → is_eq (hash_cmp c.hash x.hash) ≡ b → IsSome (tree.get hash_cmp rows x.hash) ⊎ (b ≡ true) → IsSome (cond b (Some row) (tree.get hash_cmp rows x.hash))
       there x true e h = refl
       there x false e (inl h) = h
-      there x false e (inr no) = absurd cc
+      there x false e (inr s) = absurd cc
 
       one-present : (x : NewCell) (b : Bool) → is_eq (hash_cmp c.hash x.hash) ≡ b → (c ≡ x) ⊎ Contains cells x → IsSome (tree.get hash_cmp rows' x.hash)
       one-present x b e (inl same) =

@@ -71,7 +71,7 @@ module _ (stored : List ℕ → Option Record) where
 
   -- what a row has that no step changes: the count and the face that are stored, or the face of a listed cell
   pub record IsRowRight (cells : List NewCell) (q : List ℕ) (r : Row) : Type 0 where
-    pub stored : r.stored ≡ option_map (λ x. x.count) (stored q)
+    pub count : r.stored ≡ option_map (λ x. x.count) (stored q)
     pub face : (x : Record) → stored q ≡ Some x → r.face ≡ x.face
     pub new : stored q ≡ None → (c : NewCell) × Contains cells c × (c.hash.0 ≡ q) × (r.face ≡ c.face)
 

@@ -17,11 +17,11 @@ use cd_keeper::Keeper;
 
 /// The cell with the lesser hash.
 fn lesser<'a>(cell: &'a NewCell, other: Option<&'a NewCell>) -> &'a NewCell
-    ensures { (H : List ℕ → Hash256) → result.now ≡ told.lesser H cell.now (option_map (λ r. r.now) other) }
+    ensures { (H : List ℕ → Hash256) → result.now ≡ told.lesser H cell.now (option_map (λ r. r.now) other.entry) }
 {
     match other {
         Some(other) => {
-            if other.hash < cell.hash {
+            if other.hash.0.cmp(&cell.hash.0).is_lt() {
                 other
             } else {
                 cell
