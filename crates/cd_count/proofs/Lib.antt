@@ -1,6 +1,8 @@
+pub mod Adds
 pub mod BatchKeys
 pub mod CellGraph
 pub mod Changes
+pub mod Comes
 pub mod Drops
 pub mod FitRows
 pub mod Gives

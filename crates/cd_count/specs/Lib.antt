@@ -1,5 +1,8 @@
+pub mod Bringing
 pub mod Changes
+pub mod Clashes
 pub mod Laws
+pub mod Limits
 pub mod PlanGiving
 pub mod PlanRows
 pub mod PlanSteps

@@ -1,6 +1,6 @@
 -- Inner: how the rows of a plan that is under way change as a block comes.
-use Rattle.std.specs.Prelude.{◌≡◌, ℕ, ◌+◌, ◌≤◌, Bool, false, not, cond, is_some, fold, List, [], ◌∷◌, Contains, Option, Some, None, IsSome, IfSome}
-use Rattle.std.specs.Option.{option_map}
+use Rattle.std.specs.Prelude.{◌≡◌, ℕ, ◌+◌, ◌≤◌, nat_lt, ◌&&◌, Bool, false, not, cond, is_some, fold, List, [], ◌∷◌, Contains, Option, Some, None, IsSome, IfSome}
+use Rattle.std.specs.Option.{option_map, unwrap_or}
 use Rattle.std.specs.List.{flat_map, AllByRecursion}
 use Rattle.std.specs.Str.{bytes_eq}
 use Rattle.std.specs.Ordering.{is_eq}
@@ -27,6 +27,10 @@ listed_row (Some r) face = first_row r
 abbrev pub is_another : Option Record → FaceView → Bool
 is_another None offered = false
 is_another (Some r) offered = not (same_face r.face offered)
+
+-- the count of a row is over the limit, and over the one that is stored
+abbrev pub rises_over : ℕ → Row → Bool
+rises_over limit row = nat_lt limit row.count && nat_lt (unwrap_or row.stored 0) row.count
 
 -- the children to which a listed cell gives references: none where it is stored already
 abbrev pub due_kids : Option (Option ℕ × FaceView) → FaceView → List (List ℕ)

@@ -1,0 +1,138 @@
+-- What the plan of a block that comes stands on.
+use Rattle.std.proofs.Common.{◌≡◌, ◌⊎◌, inl, inr, ℕ, zero, suc, ◌<◌, ◌≤◌, ◌&&◌, Bool, true, false, cond, not, is_some, filter, find, List, [], ◌∷◌, map, length, Contains, Option, Some, None, IfSome, IsSome, nat_lt, refl, sym, ap, ◌∙◌, subst, arith, ⊎_elim}
+use Rattle.std.specs.Prelude.{slice_index_or}
+use Rattle.std.specs.Option.{option_map, option_or, option_and_then, option_map_or, unwrap_or}
+use Rattle.std.specs.List.{AllByRecursion, IsDistinct, flat_map}
+use Rattle.std.specs.Ordering.{nat_cmp, is_lt}
+use Rattle.std.specs.Cmp.Lexicographic.{slice_cmp}
+use Rattle.std.specs.FinMap as finite
+use Rattle.std.specs.BTreeMap as tree
+use Rattle.std.proofs.lemmas.Bool.{ltb-false, and_from}
+use Rattle.std.proofs.lemmas.Option.{none-some, same_Some}
+use Rattle.cd_base.specs.declared.hash.Hash256.{Hash256}
+use Rattle.cd_cell.specs.declared.new_cell.NewCell.{NewCell}
+use Rattle.cd_cell.specs.FaceView.{FaceView}
+use Rattle.cd_cell.specs.Fit.{IsFaceFit}
+use Rattle.cd_cell.specs.GoodFace.{IsGoodFace}
+use Rattle.cd_cell.specs.Listings.{no_cell}
+use Rattle.cd_cell.specs.Tree.{Tree, face_of, subtrees}
+use Rattle.cd_cell.specs.Export.{hash_cmp}
+use Rattle.cd_cell.proofs.Subtrees.{Contains-nil, Contains-first, Contains-later, Contains-cases, flat_map-listed, flat_map-cases}
+use Rattle.cd_cell.proofs.ListTests.{filter-Contains}
+use Rattle.cd_keeper.specs.Contents.{Contents}
+use Rattle.cd_event.specs.declared.refusal.Refusal.{Refusal}
+use Rattle.cd_event.specs.declared.refusal.Refusal.TheVariants as refusal
+use Rattle.cd_record.specs.declared.record.Record.{Record}
+use Rattle.cd_nodes.specs.Plans as plans
+use Rattle.cd_world.specs.World.{Block, World}
+use Rattle.cd_world.specs.Told as told
+use Rattle.cd_world.specs.Told.{ToldWorld, shown}
+use Rattle.cd_count.specs.declared.rows.Row.{Row}
+use Rattle.cd_count.specs.Changes.{states, rep_bytes, held_under, AreAdded}
+use Rattle.cd_count.specs.Bringing.{unheld, IsBrought, HaveCome}
+use Rattle.cd_count.specs.PlanRows.{rows_of}
+use Rattle.cd_count.specs.PlanSteps.{RowMap, first_row, row_at}
+use Rattle.cd_count.specs.PlanGiving.{is_another, IsRowRight, AreListed}
+use Rattle.cd_count.specs.PlanWorlds.{record_of_cell, IsReadable}
+use Rattle.cd_count.specs.Reading.{stored_in}
+use Rattle.cd_count.proofs.Changes.{new_cells_listed}
+use Rattle.cd_count.proofs.Nothing.{same, none-dead}
+
+-- the faces of a valid list are fit
+pub all-fit : (cells : List NewCell) → ((k : ℕ) → k < length cells → IsGoodFace (slice_index_or cells k no_cell).face) → AllByRecursion (λ c. IsFaceFit c.face) cells
+all-fit [] good = tt
+all-fit (c ∷ cs) good = (let first = good 0 (omega arith) in first.fit, all-fit cs (λ k h. good (suc k) (omega (arith, h))))
+
+-- no cell is listed yet
+pub none-listed : (stored : List ℕ → Option Record) (rows : RowMap) → ((q : Hash256) → tree.get hash_cmp rows q ≡ None) → AreListed stored [] rows
+none-listed stored rows none = record {
+  counts = λ q. ap (λ (o : Option Row). count_of (option_or o (option_map first_row (stored q)))) (none (record { 0 = q }));
+  right = λ q r is. right q r (stored q) refl (sym (ap (λ (o : Option Row). option_or o (option_map first_row (stored q))) (none (record { 0 = q }))) ∙ is);
+  present = λ c h. absurd (Contains-nil c h);
+}
+  where
+    count_of : Option Row → ℕ
+    count_of None = 0
+    count_of (Some r) = r.count
+
+    right : (q : List ℕ) (r : Row) (o : Option Record) → stored q ≡ o → option_map first_row o ≡ Some r → IsRowRight stored [] q r
+    right q r None at is = absurd (none-some r is)
+    right q r (Some x) at is =
+        let row : first_row x ≡ r = same_Some (first_row x) r is in
+        record {
+          count = ap (λ (y : Row). y.stored) (sym row) ∙ sym (ap (option_map (λ (y : Record). y.count)) at);
+          face = λ y found. ap (λ (z : Row). z.face) (sym row) ∙ ap (λ (z : Record). z.face) (same_Some x y (sym at ∙ found));
+          new = λ nothing. absurd (none-some x (sym nothing ∙ at));
+        }
+
+module _ (H : List ℕ → Hash256) where
+  -- the plan of the rows once a block came
+  pub come-added : (old grown : World) (block : Block) (cells : List NewCell) (listed : List Tree) → (so : IsBrought H old grown block cells listed) → (rows : RowMap)
+      → HaveCome H old grown block (unheld H old listed) (rows_of rows.entries) → plans.HasNoKeyTwice (slice_cmp nat_cmp) (rows_of rows.entries)
+      → AreAdded H old grown (block ∷ []) (unheld H old listed) (rows_of rows.entries)
+  come-added old grown block cells listed so rows have once = record {
+    came = so.came;
+    went = same H grown so.clear;
+    clash_free = so.clear;
+    new = new_cells_listed H old (block ∷ []) grown.blocks listed so.came so.distinct
+        (λ c h. flat_map-listed (states (block ∷ [])) block.state c (Contains-first block.state []) (so.within c h))
+        (λ c h. so.every c (of_block c (flat_map-cases (states (block ∷ [])) c h)));
+    ended = none-dead H grown so.clear;
+    rows_are = have;
+    once = once;
+  }
+    where
+      of_block : (c : Tree) → (r : Tree) × Contains (block.state ∷ []) r × Contains (subtrees r) c → Contains (subtrees block.state) c
+      of_block c found = ⊎_elim (λ (is : block.state ≡ found.0). subst (λ (t : Tree). Contains (subtrees t) c) (sym is) found.2) (λ no. absurd (Contains-nil found.0 no)) (Contains-cases block.state [] found.0 found.1)
+
+  module _ (contents : Contents) (old : ToldWorld) (readable : IsReadable H (shown old) contents) where
+    abbrev S : List ℕ → Option Record
+    S = stored_in contents
+
+    mapped : (q : List ℕ) (offered : FaceView) (o : Option Tree) → told.is_other H (option_map (face_of H) o) offered ≡ is_another (option_map (record_of_cell H (shown old) q) o) offered
+    mapped q offered None = refl
+    mapped q offered (Some t) = refl
+
+    -- what is stored tells clashes as what is held
+    other-is : (c : NewCell) → told.is_other H (told.seen H old c.hash) c.face ≡ is_another (S c.hash.0) c.face
+    other-is c = mapped c.hash.0 c.face (held_under H (shown old) c.hash.0) ∙ ap (λ (o : Option Record). is_another o c.face) (sym (readable c.hash.0))
+
+    pub clash-from : (cells : List NewCell) (least : Option NewCell) → least ≡ told.least H (filter (λ c. is_another (S c.hash.0) c.face) cells)
+        → told.first_clash H old cells ≡ option_and_then (told.clash_with H old) least
+    clash-from cells least is =
+        ap (λ (p : NewCell → Bool). option_and_then (told.clash_with H old) (told.least H (filter p cells))) (λ i c. other-is c i) ∙ ap (option_and_then (told.clash_with H old)) (sym is)
+
+    -- the least is one of them
+    least-in : (cells : List NewCell) (c : NewCell) → told.least H cells ≡ Some c → Contains cells c
+    least-in [] c is = absurd (none-some c is)
+    least-in (x ∷ xs) c is = by (told.least H xs) refl (same_Some (told.lesser H x (told.least H xs)) c is)
+      where
+        pick : (d : NewCell) (b : Bool) → told.least H xs ≡ Some d → cond b d x ≡ c → Contains (x ∷ xs) c
+        pick d true at s = Contains-later x xs c (least-in xs c (at ∙ ap Some s))
+        pick d false at s = subst (Contains (x ∷ xs)) s (Contains-first x xs)
+
+        by : (o : Option NewCell) → told.least H xs ≡ o → told.lesser H x o ≡ c → Contains (x ∷ xs) c
+        by None at s = subst (Contains (x ∷ xs)) s (Contains-first x xs)
+        by (Some d) at s = pick d (is_lt (hash_cmp d.hash x.hash)) at s
+
+    -- the clash that is answered
+    pub clash-is : (cells : List NewCell) (c : NewCell) (rows : RowMap) → AreListed S cells rows → Some c ≡ told.least H (filter (λ c. is_another (S c.hash.0) c.face) cells)
+        → told.first_clash H old cells ≡ Some (refusal.Clash c.hash (option_map_or (λ (r : Row). r.face) (tree.get hash_cmp rows c.hash) c.face) c.face)
+    clash-is cells c rows are is =
+        clash-from cells (Some c) is ∙ by (held_under H (shown old) c.hash.0) refl
+      where
+        inside : Contains cells c × (is_another (S c.hash.0) c.face ≡ true)
+        inside = filter-Contains (λ (x : NewCell). is_another (S x.hash.0) x.face) cells c (least-in (filter (λ (x : NewCell). is_another (S x.hash.0) x.face) cells) c (sym is))
+
+        face-row : (t : Tree) (o : Option Row) → tree.get hash_cmp rows c.hash ≡ o → IsSome o → S c.hash.0 ≡ Some (record_of_cell H (shown old) c.hash.0 t) → face_of H t ≡ option_map_or (λ (r : Row). r.face) o c.face
+        face-row t None at some stored = absurd cc
+        face-row t (Some r) at some stored =
+            let right = are.right c.hash.0 r (ap (λ (o : Option Row). option_or o (option_map first_row (S c.hash.0))) at) in
+            sym (right.face (record_of_cell H (shown old) c.hash.0 t) stored)
+
+        by : (o : Option Tree) → held_under H (shown old) c.hash.0 ≡ o
+            → option_map (λ face. refusal.Clash c.hash face c.face) (option_map (face_of H) (held_under H (shown old) c.hash.0)) ≡ Some (refusal.Clash c.hash (option_map_or (λ (r : Row). r.face) (tree.get hash_cmp rows c.hash) c.face) c.face)
+        by None at = absurd (let never : is_another (S c.hash.0) c.face ≡ false = ap (λ (o : Option Record). is_another o c.face) (readable c.hash.0 ∙ ap (option_map (record_of_cell H (shown old) c.hash.0)) at) in cc (never, inside.1))
+        by (Some t) at =
+            ap (λ (o : Option Tree). option_map (λ face. refusal.Clash c.hash face c.face) (option_map (face_of H) o)) at
+            ∙ ap (λ (f : FaceView). Some (refusal.Clash c.hash f c.face)) (face-row t (tree.get hash_cmp rows c.hash) refl (are.present c inside.0) (readable c.hash.0 ∙ ap (option_map (record_of_cell H (shown old) c.hash.0)) at))

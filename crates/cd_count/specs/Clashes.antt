@@ -1,0 +1,14 @@
+-- Trusted: where a plan refuses for a clash.
+use Rattle.std.specs.Prelude.{◌≡◌, Option, Some, None, Result, Ok, Err}
+use Rattle.cd_event.specs.declared.refusal.Refusal.{Refusal}
+use Rattle.cd_event.specs.declared.refusal.Refusal.TheVariants as refusal
+use Rattle.cd_count.specs.declared.count_fault.CountFault.{CountFault}
+use Rattle.cd_count.specs.declared.count_fault.CountFault.TheVariants.{Clash, CountFull, Keeper, Memory}
+
+-- the plan refuses for this clash, or for none, unless it fails
+abbrev pub RefusesClash : {T : Type 0} → Option Refusal → Result T CountFault → Type 0
+RefusesClash first (Ok plan) = first ≡ None
+RefusesClash first (Err (Clash hash stored offered)) = first ≡ Some (refusal.Clash hash stored offered)
+RefusesClash first (Err (CountFull hash count)) = first ≡ None
+RefusesClash first (Err Keeper) = Unit {0}
+RefusesClash first (Err Memory) = Unit {0}
