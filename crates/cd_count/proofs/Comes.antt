@@ -1,11 +1,11 @@
 -- What the plan of a block that comes stands on.
 use Rattle.std.proofs.Common.{◌≡◌, ◌⊎◌, inl, inr, ℕ, zero, suc, ◌<◌, ◌≤◌, ◌&&◌, Bool, true, false, cond, not, is_some, filter, find, List, [], ◌∷◌, map, length, Contains, Option, Some, None, IfSome, IsSome, nat_lt, refl, sym, ap, ◌∙◌, subst, arith, ⊎_elim}
-use Rattle.std.specs.Prelude.{slice_index_or}
+use Rattle.std.specs.Prelude.{slice_index_or, Ok}
 use Rattle.std.specs.Option.{option_map, option_or, option_and_then, option_map_or, unwrap_or}
 use Rattle.std.specs.List.{AllByRecursion, IsDistinct, flat_map}
 use Rattle.std.specs.Ordering.{nat_cmp, is_lt}
 use Rattle.std.specs.Cmp.Lexicographic.{slice_cmp}
-use Rattle.std.specs.FinMap as finite
+use Rattle.std.specs.Map.{lookup}
 use Rattle.std.specs.BTreeMap as tree
 use Rattle.std.proofs.lemmas.Bool.{ltb-false, and_from}
 use Rattle.std.proofs.lemmas.Option.{none-some, same_Some}
@@ -30,9 +30,11 @@ use Rattle.cd_world.specs.Told.{ToldWorld, shown}
 use Rattle.cd_count.specs.declared.rows.Row.{Row}
 use Rattle.cd_count.specs.Changes.{states, rep_bytes, held_under, AreAdded}
 use Rattle.cd_count.specs.Bringing.{unheld, IsBrought, HaveCome}
-use Rattle.cd_count.specs.PlanRows.{rows_of}
-use Rattle.cd_count.specs.PlanSteps.{RowMap, first_row, row_at}
-use Rattle.cd_count.specs.PlanGiving.{is_another, IsRowRight, AreListed}
+use Rattle.cd_count.specs.PlanRows.{row_of, rows_of, IsRowFit, AreRowsFit}
+use Rattle.cd_count.specs.PlanSteps.{RowMap, first_row, row_at, count_of_row}
+use Rattle.cd_record.specs.declared.limits.TheConstants.{GREATEST_COUNT}
+use Rattle.cd_count.specs.Limits.{within_limit}
+use Rattle.cd_count.specs.PlanGiving.{is_another, rises_over, IsRowRight, AreListed, IsRowGood, AreRowsGood}
 use Rattle.cd_count.specs.PlanWorlds.{record_of_cell, IsReadable}
 use Rattle.cd_count.specs.Reading.{stored_in}
 use Rattle.cd_count.proofs.Changes.{new_cells_listed}
@@ -44,16 +46,15 @@ all-fit [] good = tt
 all-fit (c ∷ cs) good = (let first = good 0 (omega arith) in first.fit, all-fit cs (λ k h. good (suc k) (omega (arith, h))))
 
 -- no cell is listed yet
-pub none-listed : (stored : List ℕ → Option Record) (rows : RowMap) → ((q : Hash256) → tree.get hash_cmp rows q ≡ None) → AreListed stored [] rows
-none-listed stored rows none = record {
-  counts = λ q. ap (λ (o : Option Row). count_of (option_or o (option_map first_row (stored q)))) (none (record { 0 = q }));
+pub none-listed : (stored : List ℕ → Option Record) (rows : RowMap) → rows.entries ≡ [] → AreListed stored [] rows
+none-listed stored rows empty = record {
+  counts = λ q. ap (λ (o : Option Row). count_of_row stored (option_or o (option_map first_row (stored q)))) (none (record { 0 = q }));
   right = λ q r is. right q r (stored q) refl (sym (ap (λ (o : Option Row). option_or o (option_map first_row (stored q))) (none (record { 0 = q }))) ∙ is);
   present = λ c h. absurd (Contains-nil c h);
 }
   where
-    count_of : Option Row → ℕ
-    count_of None = 0
-    count_of (Some r) = r.count
+    none : (q : Hash256) → tree.get hash_cmp rows q ≡ None
+    none q = ap (λ (es : List (Hash256 × Row)). lookup (tree.is_at (hash_cmp q)) es) empty
 
     right : (q : List ℕ) (r : Row) (o : Option Record) → stored q ≡ o → option_map first_row o ≡ Some r → IsRowRight stored [] q r
     right q r None at is = absurd (none-some r is)
@@ -105,15 +106,15 @@ module _ (H : List ℕ → Hash256) where
     -- the least is one of them
     least-in : (cells : List NewCell) (c : NewCell) → told.least H cells ≡ Some c → Contains cells c
     least-in [] c is = absurd (none-some c is)
-    least-in (x ∷ xs) c is = by (told.least H xs) refl (same_Some (told.lesser H x (told.least H xs)) c is)
+    least-in (x ∷ xs) c is = by (least-in xs) (told.least H xs) refl (same_Some (told.lesser H x (told.least H xs)) c is)
       where
-        pick : (d : NewCell) (b : Bool) → told.least H xs ≡ Some d → cond b d x ≡ c → Contains (x ∷ xs) c
-        pick d true at s = Contains-later x xs c (least-in xs c (at ∙ ap Some s))
-        pick d false at s = subst (Contains (x ∷ xs)) s (Contains-first x xs)
+        pick : ((d : NewCell) → told.least H xs ≡ Some d → Contains xs d) → (d : NewCell) (b : Bool) → told.least H xs ≡ Some d → cond b d x ≡ c → Contains (x ∷ xs) c
+        pick rest d true at s = Contains-later x xs c (rest c (at ∙ ap (λ (y : NewCell). Some y) s))
+        pick rest d false at s = subst (Contains (x ∷ xs)) s (Contains-first x xs)
 
-        by : (o : Option NewCell) → told.least H xs ≡ o → told.lesser H x o ≡ c → Contains (x ∷ xs) c
-        by None at s = subst (Contains (x ∷ xs)) s (Contains-first x xs)
-        by (Some d) at s = pick d (is_lt (hash_cmp d.hash x.hash)) at s
+        by : ((d : NewCell) → told.least H xs ≡ Some d → Contains xs d) → (o : Option NewCell) → told.least H xs ≡ o → told.lesser H x o ≡ c → Contains (x ∷ xs) c
+        by rest None at s = subst (Contains (x ∷ xs)) s (Contains-first x xs)
+        by rest (Some d) at s = pick rest d (is_lt (hash_cmp d.hash x.hash)) at s
 
     -- the clash that is answered
     pub clash-is : (cells : List NewCell) (c : NewCell) (rows : RowMap) → AreListed S cells rows → Some c ≡ told.least H (filter (λ c. is_another (S c.hash.0) c.face) cells)
@@ -136,3 +137,21 @@ module _ (H : List ℕ → Hash256) where
         by (Some t) at =
             ap (λ (o : Option Tree). option_map (λ face. refusal.Clash c.hash face c.face) (option_map (face_of H) o)) at
             ∙ ap (λ (f : FaceView). Some (refusal.Clash c.hash f c.face)) (face-row t (tree.get hash_cmp rows c.hash) refl (are.present c inside.0) (readable c.hash.0 ∙ ap (option_map (record_of_cell H (shown old) c.hash.0)) at))
+
+-- rows of which none rises over the limit have counts in range
+row-fit : (limit : ℕ) → limit ≤ GREATEST_COUNT → (r : Row) → rises_over limit r ≡ false → IsRowGood (row_of r) → IsRowFit (row_of r)
+row-fit limit small r low good = record { face = good.face; few = by (nat_lt limit r.count) refl r.stored good.few low }
+  where
+    by : (b : Bool) → nat_lt limit r.count ≡ b → (o : Option ℕ) → IfSome o (λ n. n ≤ GREATEST_COUNT) → (b && nat_lt (unwrap_or o 0) r.count) ≡ false → r.count ≤ GREATEST_COUNT
+    by false at o few none = let l = ltb-false limit r.count at in omega arith
+    by true at None few none = let l = ltb-false 0 r.count none in omega arith
+    by true at (Some n) few none = let l = ltb-false n r.count none in omega arith
+
+pub fit-within : (limit : ℕ) → limit ≤ GREATEST_COUNT → (es : List (Hash256 × Row)) → within_limit (find (λ e. rises_over limit e.1) es) ≡ Ok tt → AreRowsGood (rows_of es) → AreRowsFit (rows_of es)
+fit-within limit small [] is good = tt
+fit-within limit small (e ∷ es) is good = by (rises_over limit e.1) refl is (fit-within limit small es)
+  where
+    by : (b : Bool) → rises_over limit e.1 ≡ b → within_limit (cond b (Some e) (find (λ x. rises_over limit x.1) es)) ≡ Ok tt
+        → (within_limit (find (λ x. rises_over limit x.1) es) ≡ Ok tt → AreRowsGood (rows_of es) → AreRowsFit (rows_of es)) → AreRowsFit (rows_of (e ∷ es))
+    by true at s rest = absurd cc
+    by false at s rest = (row-fit limit small e.1 at good.0, rest s good.1)

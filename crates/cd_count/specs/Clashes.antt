@@ -5,6 +5,13 @@ use Rattle.cd_event.specs.declared.refusal.Refusal.TheVariants as refusal
 use Rattle.cd_count.specs.declared.count_fault.CountFault.{CountFault}
 use Rattle.cd_count.specs.declared.count_fault.CountFault.TheVariants.{Clash, CountFull, Keeper, Memory}
 
+-- a fault of the keeper or want of memory
+abbrev pub IsOutside : CountFault → Type 0
+IsOutside Keeper = Unit {0}
+IsOutside Memory = Unit {0}
+IsOutside (Clash hash stored offered) = ⊥
+IsOutside (CountFull hash count) = ⊥
+
 -- the plan refuses for this clash, or for none, unless it fails
 abbrev pub RefusesClash : {T : Type 0} → Option Refusal → Result T CountFault → Type 0
 RefusesClash first (Ok plan) = first ≡ None

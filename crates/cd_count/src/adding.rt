@@ -1,4 +1,4 @@
-ghost use Rattle.std.specs.Prelude.{◌≡◌, ℕ, ◌+◌, ◌≤◌, List, [], length, filter, IfSome, IfOk, OnOk};
+ghost use Rattle.std.specs.Prelude.{◌≡◌, ℕ, ◌+◌, ◌≤◌, List, [], length, filter, IfSome, IfOk, IfErr, OnOk};
 ghost use Rattle.std.specs.List.{AllByRecursion};
 ghost use Rattle.std.specs.Option.{option_map};
 ghost use Rattle.cd_base.specs.declared.hash.Hash256.{Hash256};
@@ -22,6 +22,7 @@ ghost use Rattle.cd_count.specs.Changes.{AreAdded};
 ghost use Rattle.cd_count.specs.Bringing.{unheld, IsBrought, HaveCome};
 ghost use Rattle.cd_count.specs.Limits.{within_limit};
 ghost use Rattle.cd_count.specs.SoundContents.{AreSoundContents};
+ghost use Rattle.cd_count.specs.Clashes.{IsOutside};
 
 use crate::count_fault::CountFault;
 use crate::giving::{give_all_kids, give_reference, list_cell};
@@ -63,6 +64,7 @@ pub fn list_cells<'a, K: Keeper>(
     ensures good { OnOk result (AreRowsGood (rows_of rows.old.entries) → AreRowsGood (rows_of rows.new.entries)) }
     ensures reads { K.reads keeper.new ≤ K.reads keeper.old + length cells.now }
     ensures cause { HasCountCause (K.faults keeper.old) (K.faults keeper.new) result }
+    ensures outside { IfErr result IsOutside }
 {
     let mut least = None;
     let mut place = cells.len();
@@ -130,6 +132,7 @@ pub fn add_rows<K: Keeper>(
     ensures good { OnOk result (AreRowsGood (rows_of rows.old.entries) → AreRowsGood (rows_of rows.new.entries)) }
     ensures reads { K.reads keeper.new ≤ K.reads keeper.old + (4 * length cells.now + 1) }
     ensures cause { HasCountCause (K.faults keeper.old) (K.faults keeper.new) result }
+    ensures outside { IfErr result IsOutside }
 {
     give_all_kids(rows, keeper, cells)?;
     give_reference(rows, keeper, root)?;

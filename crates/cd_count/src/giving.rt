@@ -1,6 +1,6 @@
 //! How the rows of a plan change as a block comes.
 
-ghost use Rattle.std.specs.Prelude.{◌≡◌, ◌+◌, ◌*◌, ◌≤◌, [], ◌∷◌, map, length, IfSome, IfOk, OnOk};
+ghost use Rattle.std.specs.Prelude.{◌≡◌, ◌+◌, ◌*◌, ◌≤◌, [], ◌∷◌, map, length, IfSome, IfOk, IfErr, OnOk};
 ghost use Rattle.cd_cell.specs.Fit.{IsFaceFit};
 ghost use Rattle.cd_keeper.specs.Shown.{hash_bytes};
 ghost use Rattle.cd_keeper.specs.Keeping.{KeepsHeld};
@@ -8,6 +8,7 @@ ghost use Rattle.cd_count.specs.Reading.{stored_in, HasCountCause};
 ghost use Rattle.cd_count.specs.PlanRows.{rows_of};
 ghost use Rattle.cd_count.specs.PlanSteps.{fixed_at};
 ghost use Rattle.cd_count.specs.PlanGiving.{listed_row, is_another, due_kids, due_of, AreRowsGood, IsListed, AreGiven};
+ghost use Rattle.cd_count.specs.Clashes.{IsOutside};
 
 use crate::count_fault::CountFault;
 use crate::rows::{Row, Rows, first_row, kid_hashes, read_record};
@@ -45,6 +46,7 @@ pub fn list_cell<K: Keeper>(
     ensures good { OnOk result (AreRowsGood (rows_of rows.old.entries) → AreRowsGood (rows_of rows.new.entries)) }
     ensures reads { K.reads keeper.new ≤ K.reads keeper.old + 1 }
     ensures cause { HasCountCause (K.faults keeper.old) (K.faults keeper.new) result }
+    ensures outside { IfErr result IsOutside }
 {
     let found = read_record(keeper, &cell.hash)?;
     let row = listed_row(found, cell);
@@ -76,6 +78,7 @@ pub fn give_reference<K: Keeper>(
     ensures good { OnOk result (AreRowsGood (rows_of rows.old.entries) → AreRowsGood (rows_of rows.new.entries)) }
     ensures reads { K.reads keeper.new ≤ K.reads keeper.old + 1 }
     ensures cause { HasCountCause (K.faults keeper.old) (K.faults keeper.new) result }
+    ensures outside { IfErr result IsOutside }
 {
     if let Some(row) = rows.get_mut(hash) {
         return Ok(raise(row)?);
@@ -101,6 +104,7 @@ fn give_references<K: Keeper>(
     ensures good { OnOk result (AreRowsGood (rows_of rows.old.entries) → AreRowsGood (rows_of rows.new.entries)) }
     ensures reads { K.reads keeper.new ≤ K.reads keeper.old + length hashes.now }
     ensures cause { HasCountCause (K.faults keeper.old) (K.faults keeper.new) result }
+    ensures outside { IfErr result IsOutside }
 {
     for hash in hashes {
         give_reference(rows, keeper, hash)?;
@@ -120,6 +124,7 @@ fn give_kids<K: Keeper>(
     ensures good { OnOk result (AreRowsGood (rows_of rows.old.entries) → AreRowsGood (rows_of rows.new.entries)) }
     ensures reads { K.reads keeper.new ≤ K.reads keeper.old + 4 }
     ensures cause { HasCountCause (K.faults keeper.old) (K.faults keeper.new) result }
+    ensures outside { IfErr result IsOutside }
 {
     let Some(row) = rows.get(&cell.hash) else {
         return Ok(());
@@ -143,6 +148,7 @@ pub fn give_all_kids<K: Keeper>(
     ensures good { OnOk result (AreRowsGood (rows_of rows.old.entries) → AreRowsGood (rows_of rows.new.entries)) }
     ensures reads { K.reads keeper.new ≤ K.reads keeper.old + 4 * length cells.now }
     ensures cause { HasCountCause (K.faults keeper.old) (K.faults keeper.new) result }
+    ensures outside { IfErr result IsOutside }
 {
     for cell in cells {
         give_kids(rows, keeper, cell)?;

@@ -1,6 +1,105 @@
-use Rattle.std.proofs.Common.{◌≡◌}
-use Rattle.cd_count.proofs.Comes.{all-fit, none-listed, come-added, clash-from, clash-is}
+use Rattle.std.proofs.Common.{◌≡◌, ℕ, List, [], ◌∷◌, filter, find, Option, Some, None, IfSome, refl, sym, ap, ◌∙◌, subst, arith}
+use Rattle.std.specs.List.{AllByRecursion}
+use Rattle.std.specs.Option.{option_map}
+use Rattle.std.specs.BTreeMap as tree
+use Rattle.cd_base.specs.declared.hash.Hash256.{Hash256}
+use Rattle.cd_cell.specs.declared.new_cell.NewCell.{NewCell}
+use Rattle.cd_cell.specs.Fit.{IsFaceFit}
+use Rattle.cd_cell.specs.Infos.{rep_of_info}
+use Rattle.cd_cell.specs.Tree.{Tree, rep_of}
+use Rattle.cd_keeper.specs.Contents.{Contents}
+use Rattle.cd_world.specs.World.{Block, World}
+use Rattle.cd_world.specs.Told as told
+use Rattle.cd_world.specs.Told.{ToldWorld, shown}
+use Rattle.cd_count.specs.declared.rows.Row.{Row}
+use Rattle.cd_count.specs.declared.count_fault.CountFault.{CountFault}
+use Rattle.cd_count.specs.Changes.{AreAdded}
+use Rattle.cd_count.specs.Bringing.{unheld, IsBrought, HaveCome}
+use Rattle.cd_count.specs.Clashes.{RefusesClash}
+use Rattle.cd_count.specs.PlanGiving.{is_another, AreListed, AreRowsGood, rises_over}
+use Rattle.cd_count.specs.PlanRows.{rows_of, AreRowsFit}
+use Rattle.cd_count.specs.Reading.{stored_in}
+use Rattle.cd_count.specs.SoundContents.{AreSoundContents}
+use Rattle.cd_count.proofs.BatchKeys.{once-sorted}
+use Rattle.cd_count.proofs.Readable.{readable}
+use Rattle.cd_count.proofs.Steps.{if_both, if_some-map}
+use Rattle.cd_count.proofs.Comes.{all-fit, none-listed, come-added, clash-from, clash-is, fit-within}
 use Rattle.cd_count.proofs.plan.plan_add.Goals as goal
 
-pub list_cells-requires-clause-fit : goal.list_cells-requires-clause-fit
-list_cells-requires-clause-fit g c = ?
+pub list_cells-requires : goal.list_cells-requires
+list_cells-requires g c =
+    let valid = c.cells-cells.ensures.kept in
+    record { fit = subst (λ (cs : List NewCell). AllByRecursion (λ x. IsFaceFit x.face) cs) (sym c.cells-cells.ensures.value) (all-fit c.args.prepared.now.cells valid.good) }
+
+abbrev Listed : List NewCell → Contents → tree.BTreeMap Hash256 Row → tree.BTreeMap Hash256 Row → Type 0
+Listed cells contents before after = AreListed (stored_in contents) [] before → AreListed (stored_in contents) cells after
+
+abbrev Least : List NewCell → Contents → Option NewCell → Type 0
+Least cells contents least = (H : List ℕ → Hash256) → least ≡ told.least H (filter (λ x. is_another (stored_in contents x.hash.0) x.face) cells)
+
+pub returns-in-Some-clause-clash : goal.returns-in-Some-clause-clash
+returns-in-Some-clause-clash g c =
+    let H = g.H.Hash32.digest_of in
+    let cells = c.cells-cells.result.now in
+    let cell = c.in-Some.cell.now in
+    let rows = c.list_cells.new.rows in
+    let so = c.in_ok-cell.ensures in
+    if_both (λ (contents : Contents). Listed cells contents c.new-rows.result rows) (λ (contents : Contents). Least cells contents (option_map (λ r. r.now) c.in_ok-cell.field-0))
+    (λ (contents : Contents). (old : ToldWorld) → AreSoundContents H old contents → RefusesClash {T = (Rattle.cd_count.specs.contracts.plan.Plan.the_row).Denot} (told.first_clash H old c.args.prepared.now.cells) (Rattle.std.proofs.Common.Err c.clash_of.result))
+    (g.K.Keeper.held c.args.keeper.now) so.listed so.least
+    (λ contents listed least old sound.
+    let is = clash-is H contents old (readable H old contents sound) cells cell rows (listed (none-listed (stored_in contents) c.new-rows.result c.new-rows.ensures.empty))
+    (sym (ap (option_map (λ r. r.now)) c.in-Some.is) ∙ least H) in
+    subst (λ (fault : CountFault). RefusesClash {T = (Rattle.cd_count.specs.contracts.plan.Plan.the_row).Denot} (told.first_clash H old c.args.prepared.now.cells) (Rattle.std.proofs.Common.Err fault)) (sym c.clash_of.ensures)
+    (ap (told.first_clash H old) (sym c.cells-cells.ensures.value) ∙ is))
+
+pub returns-in_err-cell-clause-clash : goal.returns-in_err-cell-clause-clash
+returns-in_err-cell-clause-clash g c = ?
+
+pub returns-in_err-add_rows-clause-clash : goal.returns-in_err-add_rows-clause-clash
+returns-in_err-add_rows-clause-clash g c = ?
+
+pub returns-in_err-check_limit-clause-clash : goal.returns-in_err-check_limit-clause-clash
+returns-in_err-check_limit-clause-clash g c = ?
+
+pub invariant_of-result : goal.invariant_of-result
+invariant_of-result g c =
+    let listed = c.in_ok-cell.ensures in
+    let added = c.in_ok-add_rows.ensures in
+    fit-within c.args.limit c.requires c.add_rows.new.rows.entries (sym c.check_limit.ensures ∙ c.in_ok-check_limit.was)
+    (added.good (listed.good (subst (λ (es : List (Hash256 × Row)). AreRowsGood (rows_of es)) (sym c.new-rows.ensures.empty) tt)))
+
+pub returns-clause-added : goal.returns-clause-added
+returns-clause-added g c =
+    let H = g.H.Hash32.digest_of in
+    let cells = c.cells-cells.result.now in
+    let rows = c.list_cells.new.rows in
+    let rows' = c.add_rows.new.rows in
+    let so = c.in_ok-cell.ensures in
+    let Given = λ (contents : Contents). (H : List ℕ → Hash256) (old : ToldWorld) (grown : World) (block : Block) (listed : List Tree)
+    → AreSoundContents H old contents → IsBrought H (shown old) grown block cells listed
+    → AreListed (stored_in contents) cells rows → rep_of H block.state ≡ c.rep-root.result
+    → HaveCome H (shown old) grown block (unheld H (shown old) listed) (rows_of rows'.entries) in
+    if_both (λ (contents : Contents). Listed cells contents c.new-rows.result rows) Given
+    (λ (contents : Contents). (old : ToldWorld) (grown : World) (block : Block) (listed : List Tree) → AreSoundContents H old contents
+    → IsBrought H (shown old) grown block c.args.prepared.now.cells listed → rep_of H block.state ≡ rep_of_info c.args.prepared.now.root
+    → AreAdded H (shown old) grown (block ∷ []) (unheld H (shown old) listed) (rows_of rows'.entries))
+    (g.K.Keeper.held c.args.keeper.now) so.listed
+    (subst (λ (o : Option Contents). IfSome o Given) so.keeps.same_held c.in_ok-add_rows.ensures.given)
+    (λ contents at_first given old grown block listed sound brought is.
+    let brought0 = subst (λ (cs : List NewCell). IsBrought H (shown old) grown block cs listed) (sym c.cells-cells.ensures.value) brought in
+    let root : rep_of H block.state ≡ c.rep-root.result = is ∙ sym (c.rep-root.ensures ∙ ap rep_of_info c.root.ensures.value) in
+    come-added H (shown old) grown block cells listed brought0 rows'
+    (given H old grown block listed sound brought0 (at_first (none-listed (stored_in contents) c.new-rows.result c.new-rows.ensures.empty)) root)
+    (once-sorted rows'.entries c.len.ensures.ordered))
+
+pub returns-clause-clash : goal.returns-clause-clash
+returns-clause-clash g c =
+    let H = g.H.Hash32.digest_of in
+    let cells = c.cells-cells.result.now in
+    if_some-map (λ (contents : Contents). Least cells contents (option_map (λ r. r.now) c.in_ok-cell.field-0))
+    (λ (contents : Contents). (old : ToldWorld) → AreSoundContents H old contents → told.first_clash H old c.args.prepared.now.cells ≡ None)
+    (g.K.Keeper.held c.args.keeper.now) c.in_ok-cell.ensures.least
+    (λ contents least old sound.
+    ap (told.first_clash H old) (sym c.cells-cells.ensures.value)
+    ∙ clash-from H contents old (readable H old contents sound) cells None (sym (ap (option_map (λ r. r.now)) c.in_default.is) ∙ least H))
