@@ -1,6 +1,9 @@
 -- What the plan of a block that comes stands on.
 use Rattle.std.proofs.Common.{◌≡◌, ◌⊎◌, inl, inr, ℕ, zero, suc, ◌<◌, ◌≤◌, ◌&&◌, Bool, true, false, cond, not, is_some, filter, find, List, [], ◌∷◌, map, length, Contains, Option, Some, None, IfSome, IsSome, nat_lt, refl, sym, ap, ◌∙◌, subst, arith, ⊎_elim}
-use Rattle.std.specs.Prelude.{slice_index_or, Ok}
+use Rattle.std.specs.Prelude.{slice_index_or, Result, Ok, Err}
+use Rattle.cd_count.specs.declared.count_fault.CountFault.{CountFault}
+use Rattle.cd_count.specs.declared.count_fault.CountFault.TheVariants.{Clash, CountFull, Keeper, Memory}
+use Rattle.cd_count.specs.Clashes.{IsOutside, RefusesClash}
 use Rattle.std.specs.Option.{option_map, option_or, option_and_then, option_map_or, unwrap_or}
 use Rattle.std.specs.List.{AllByRecursion, IsDistinct, flat_map}
 use Rattle.std.specs.Ordering.{nat_cmp, is_lt}
@@ -155,3 +158,21 @@ fit-within limit small (e ∷ es) is good = by (rises_over limit e.1) refl is (f
         → (within_limit (find (λ x. rises_over limit x.1) es) ≡ Ok tt → AreRowsGood (rows_of es) → AreRowsFit (rows_of es)) → AreRowsFit (rows_of (e ∷ es))
     by true at s rest = absurd cc
     by false at s rest = (row-fit limit small e.1 at good.0, rest s good.1)
+
+-- faults from outside refuse nothing
+pub outside-refuses : {T : Type 0} (first : Option Refusal) (fault : CountFault) (result : Result T CountFault) → result ≡ Err fault → IsOutside fault → RefusesClash first result
+outside-refuses {T} first fault result is out = subst (λ (r : Result T CountFault). RefusesClash first r) (sym is) (refuses fault out)
+  where
+    refuses : (f : CountFault) → IsOutside f → RefusesClash {T = T} first (Err f)
+    refuses Keeper out = tt
+    refuses Memory out = tt
+    refuses (Clash hash stored offered) out = absurd out
+    refuses (CountFull hash count) out = absurd out
+
+-- a count over the limit is no clash
+pub limit-refuses : {T : Type 0} (first : Option Refusal) (o : Option (Hash256 × Row)) (fault : CountFault) (result : Result T CountFault)
+    → within_limit o ≡ Err fault → result ≡ Err fault → first ≡ None → RefusesClash first result
+limit-refuses first None fault result e is none = absurd cc
+limit-refuses {T} first (Some x) fault result e is none =
+    let same_fault : CountFull x.0 x.1.count ≡ fault = cc in
+    subst (λ (r : Result T CountFault). RefusesClash first r) (ap (λ (f : CountFault). Err f) same_fault ∙ sym is) none

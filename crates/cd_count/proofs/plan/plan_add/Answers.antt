@@ -1,4 +1,6 @@
 use Rattle.std.proofs.Common.{◌≡◌, ℕ, List, [], ◌∷◌, filter, find, Option, Some, None, IfSome, refl, sym, ap, ◌∙◌, subst, arith}
+use Rattle.std.specs.Prelude.{Err}
+use Rattle.std.proofs.lemmas.Result.{err_from_is_err_and}
 use Rattle.std.specs.List.{AllByRecursion}
 use Rattle.std.specs.Option.{option_map}
 use Rattle.std.specs.BTreeMap as tree
@@ -22,8 +24,8 @@ use Rattle.cd_count.specs.Reading.{stored_in}
 use Rattle.cd_count.specs.SoundContents.{AreSoundContents}
 use Rattle.cd_count.proofs.BatchKeys.{once-sorted}
 use Rattle.cd_count.proofs.Readable.{readable}
-use Rattle.cd_count.proofs.Steps.{if_both, if_some-map}
-use Rattle.cd_count.proofs.Comes.{all-fit, none-listed, come-added, clash-from, clash-is, fit-within}
+use Rattle.cd_count.proofs.Steps.{if_both, if_some, if_some-map}
+use Rattle.cd_count.proofs.Comes.{all-fit, none-listed, come-added, clash-from, clash-is, fit-within, outside-refuses, limit-refuses}
 use Rattle.cd_count.proofs.plan.plan_add.Goals as goal
 
 pub list_cells-requires : goal.list_cells-requires
@@ -54,13 +56,38 @@ returns-in-Some-clause-clash g c =
     (ap (told.first_clash H old) (sym c.cells-cells.ensures.value) ∙ is))
 
 pub returns-in_err-cell-clause-clash : goal.returns-in_err-cell-clause-clash
-returns-in_err-cell-clause-clash g c = ?
+returns-in_err-cell-clause-clash g c =
+    let gives = err_from_is_err_and c.from_residual.result c.from_residual.ensures.1 in
+    let is : c.from_residual.result ≡ Err c.in_err-cell.field-0.0 = cc (gives.1, gives.2) in
+    let so = c.in_err-cell.ensures in
+    if_some (λ (contents : Contents). (old : ToldWorld) → AreSoundContents g.H.Hash32.digest_of old contents → RefusesClash (told.first_clash g.H.Hash32.digest_of old c.args.prepared.now.cells) c.from_residual.result)
+    (g.K.Keeper.held c.args.keeper.now)
+    (λ contents old sound. outside-refuses (told.first_clash g.H.Hash32.digest_of old c.args.prepared.now.cells) c.in_err-cell.field-0.0 c.from_residual.result is so.outside)
 
 pub returns-in_err-add_rows-clause-clash : goal.returns-in_err-add_rows-clause-clash
-returns-in_err-add_rows-clause-clash g c = ?
+returns-in_err-add_rows-clause-clash g c =
+    let gives = err_from_is_err_and c.from_residual-in_err-add_rows.result c.from_residual-in_err-add_rows.ensures.1 in
+    let is : c.from_residual-in_err-add_rows.result ≡ Err c.in_err-add_rows.field-0.0 = cc (gives.1, gives.2) in
+    let so = c.in_err-add_rows.ensures in
+    if_some (λ (contents : Contents). (old : ToldWorld) → AreSoundContents g.H.Hash32.digest_of old contents → RefusesClash (told.first_clash g.H.Hash32.digest_of old c.args.prepared.now.cells) c.from_residual-in_err-add_rows.result)
+    (g.K.Keeper.held c.args.keeper.now)
+    (λ contents old sound. outside-refuses (told.first_clash g.H.Hash32.digest_of old c.args.prepared.now.cells) c.in_err-add_rows.field-0.0 c.from_residual-in_err-add_rows.result is so.outside)
 
 pub returns-in_err-check_limit-clause-clash : goal.returns-in_err-check_limit-clause-clash
-returns-in_err-check_limit-clause-clash g c = ?
+returns-in_err-check_limit-clause-clash g c =
+    let H = g.H.Hash32.digest_of in
+    let cells = c.cells-cells.result.now in
+    let result = c.from_residual-in_err-check_limit.result in
+    let gives = err_from_is_err_and result c.from_residual-in_err-check_limit.ensures.1 in
+    let is : result ≡ Err c.in_err-check_limit.field-0.0 = cc (gives.1, gives.2) in
+    if_some-map (λ (contents : Contents). Least cells contents (option_map (λ r. r.now) c.in_ok-cell.field-0))
+    (λ (contents : Contents). (old : ToldWorld) → AreSoundContents H old contents → RefusesClash (told.first_clash H old c.args.prepared.now.cells) result)
+    (g.K.Keeper.held c.args.keeper.now) c.in_ok-cell.ensures.least
+    (λ contents least old sound.
+    limit-refuses (told.first_clash H old c.args.prepared.now.cells) (find (λ e. rises_over c.args.limit e.1) c.add_rows.new.rows.entries) c.in_err-check_limit.field-0.0 result
+    (sym c.check_limit.ensures ∙ c.in_err-check_limit.was) is
+    (ap (told.first_clash H old) (sym c.cells-cells.ensures.value)
+    ∙ clash-from H contents old (readable H old contents sound) cells None (sym (ap (option_map (λ r. r.now)) c.in_default.is) ∙ least H)))
 
 pub invariant_of-result : goal.invariant_of-result
 invariant_of-result g c =
