@@ -1,12 +1,9 @@
 -- What the rows of a plan say once a block came.
-use Rattle.std.proofs.Common.{◌≡◌, ◌⊎◌, inl, inr, ℕ, ◌+◌, Bool, true, false, cond, fold, flat_map, filter, is_some, is_none, not, List, [], ◌∷◌, ◌++◌, map, Contains, Option, Some, None, IsSome, refl, sym, ap, ◌∙◌, subst, arith, ⊎_elim}
+use Rattle.std.proofs.Common.{◌≡◌, inl, inr, ℕ, ◌+◌, Bool, true, false, cond, is_some, is_none, List, [], ◌∷◌, ◌++◌, map, Contains, Option, Some, None, IsSome, refl, sym, ap, ◌∙◌, subst, arith, ⊎_elim}
 use Rattle.std.specs.Option.{option_map, option_or, option_map_or}
-use Rattle.std.specs.List.{IsDistinct}
 use Rattle.std.specs.Str.{bytes_eq}
-use Rattle.std.specs.Ordering.{nat_cmp}
-use Rattle.std.specs.Cmp.Lexicographic.{slice_cmp}
 use Rattle.std.specs.BTreeMap as tree
-use Rattle.std.proofs.lemmas.Option.{none-some, same_Some}
+use Rattle.std.proofs.lemmas.Option.{same_Some}
 use Rattle.std.proofs.lemmas.List.Sums.{sum_by-cons}
 use Rattle.cd_base.specs.declared.hash.Hash256.{Hash256}
 use Rattle.cd_cell.specs.declared.new_cell.NewCell.{NewCell}
@@ -14,7 +11,7 @@ use Rattle.cd_cell.specs.FaceView.{FaceView}
 use Rattle.cd_cell.specs.Export.{hash_cmp}
 use Rattle.cd_cell.specs.Infos.{rep_of_info}
 use Rattle.cd_cell.specs.Listings.{new_cell_of}
-use Rattle.cd_cell.specs.Tree.{Tree, children, subtrees, face_of, rep_of, info_of}
+use Rattle.cd_cell.specs.Tree.{Tree, children, subtrees, face_of, rep_of}
 use Rattle.cd_cell.proofs.Subtrees.{kids-face_of, Contains-nil, Contains-cases, Contains-first, Contains-later, Contains-map, Contains-mapped, subtree-itself}
 use Rattle.cd_keeper.specs.Contents.{Contents}
 use Rattle.cd_keeper.specs.Shown.{hash_bytes}
@@ -23,11 +20,11 @@ use Rattle.cd_nodes.specs.Graphs as nodes
 use Rattle.cd_nodes.specs.Plans as plans
 use Rattle.cd_nodes.proofs.Lists.{option_cases, Contains-flat_map}
 use Rattle.cd_nodes.proofs.Held.{held_of}
-use Rattle.cd_nodes.proofs.Counts.{clash_free-few, held_at-kept, reached-child}
+use Rattle.cd_nodes.proofs.Counts.{clash_free-few, held_at-kept}
 use Rattle.cd_nodes.proofs.Records.{count-not_held}
 use Rattle.cd_world.specs.World.{Block, World, count_of}
 use Rattle.cd_count.specs.declared.rows.Row.{Row}
-use Rattle.cd_count.specs.Changes.{states, row_in, rep_bytes, cell_graph, held_under, AreTogether, AreAdded}
+use Rattle.cd_count.specs.Changes.{states, row_in, rep_bytes, cell_graph, held_under}
 use Rattle.cd_count.specs.Bringing.{unheld, IsBrought}
 use Rattle.cd_count.specs.PlanRows.{row_of, rows_of}
 use Rattle.cd_count.specs.PlanSteps.{RowMap, first_row, fixed_part, row_at, count_of_row, count_at, fixed_at, kid_bytes}

@@ -1,16 +1,16 @@
 -- What the plan of a block that comes stands on.
-use Rattle.std.proofs.Common.{◌≡◌, ◌⊎◌, inl, inr, ℕ, zero, suc, ◌<◌, ◌≤◌, ◌&&◌, Bool, true, false, cond, not, is_some, filter, find, List, [], ◌∷◌, map, length, Contains, Option, Some, None, IfSome, IsSome, nat_lt, refl, sym, ap, ◌∙◌, subst, arith, ⊎_elim}
+use Rattle.std.proofs.Common.{◌≡◌, ℕ, suc, ◌<◌, ◌≤◌, ◌&&◌, Bool, true, false, cond, filter, find, List, [], ◌∷◌, length, Contains, Option, Some, None, IfSome, IsSome, nat_lt, refl, sym, ap, ◌∙◌, subst, arith, ⊎_elim}
 use Rattle.std.specs.Prelude.{slice_index_or, Result, Ok, Err}
 use Rattle.cd_count.specs.declared.count_fault.CountFault.{CountFault}
 use Rattle.cd_count.specs.declared.count_fault.CountFault.TheVariants.{Clash, CountFull, Keeper, Memory}
 use Rattle.cd_count.specs.Clashes.{IsOutside, RefusesClash}
 use Rattle.std.specs.Option.{option_map, option_or, option_and_then, option_map_or, unwrap_or}
-use Rattle.std.specs.List.{AllByRecursion, IsDistinct, flat_map}
+use Rattle.std.specs.List.{AllByRecursion}
 use Rattle.std.specs.Ordering.{nat_cmp, is_lt}
 use Rattle.std.specs.Cmp.Lexicographic.{slice_cmp}
 use Rattle.std.specs.Map.{lookup}
 use Rattle.std.specs.BTreeMap as tree
-use Rattle.std.proofs.lemmas.Bool.{ltb-false, and_from}
+use Rattle.std.proofs.lemmas.Bool.{ltb-false}
 use Rattle.std.proofs.lemmas.Option.{none-some, same_Some}
 use Rattle.cd_base.specs.declared.hash.Hash256.{Hash256}
 use Rattle.cd_cell.specs.declared.new_cell.NewCell.{NewCell}
@@ -31,10 +31,10 @@ use Rattle.cd_world.specs.World.{Block, World}
 use Rattle.cd_world.specs.Told as told
 use Rattle.cd_world.specs.Told.{ToldWorld, shown}
 use Rattle.cd_count.specs.declared.rows.Row.{Row}
-use Rattle.cd_count.specs.Changes.{states, rep_bytes, held_under, AreAdded}
+use Rattle.cd_count.specs.Changes.{states, held_under, AreAdded}
 use Rattle.cd_count.specs.Bringing.{unheld, IsBrought, HaveCome}
 use Rattle.cd_count.specs.PlanRows.{row_of, rows_of, IsRowFit, AreRowsFit}
-use Rattle.cd_count.specs.PlanSteps.{RowMap, first_row, row_at, count_of_row}
+use Rattle.cd_count.specs.PlanSteps.{RowMap, first_row, count_of_row}
 use Rattle.cd_record.specs.declared.limits.TheConstants.{GREATEST_COUNT}
 use Rattle.cd_count.specs.Limits.{within_limit}
 use Rattle.cd_count.specs.PlanGiving.{is_another, rises_over, IsRowRight, AreListed, IsRowGood, AreRowsGood}

@@ -1,15 +1,11 @@
 -- Rows that all have a property keep it as one is set or put.
-use Rattle.std.proofs.Common.{◌≡◌, ℕ, Bool, true, false, cond, List, [], ◌∷◌, Option, Some, None, subst, sym, ◌+◌}
-use Rattle.std.specs.List.{AllByRecursion}
+use Rattle.std.proofs.Common.{◌≡◌, Bool, true, false, cond, List, [], ◌∷◌, Some, subst, sym, ◌+◌}
 use Rattle.std.specs.Map.{lookup, set_value}
 use Rattle.std.specs.Ordering.{match_ordering}
-use Rattle.std.specs.declared.cmp.Ordering.{Ordering}
 use Rattle.std.specs.declared.cmp.Ordering.TheVariants.{Less, Equal, Greater}
 use Rattle.std.specs.BTreeMap as tree
 use Rattle.cd_base.specs.declared.hash.Hash256.{Hash256}
-use Rattle.cd_cell.specs.FaceView.{FaceView}
 use Rattle.cd_cell.specs.Export.{hash_cmp}
-use Rattle.cd_nodes.specs.Plans as plans
 use Rattle.cd_count.specs.declared.rows.Row.{Row}
 use Rattle.cd_count.specs.PlanRows.{row_of, rows_of}
 use Rattle.cd_count.specs.PlanGiving.{IsRowGood, AreRowsGood}

@@ -1,19 +1,17 @@
 -- What a listed cell does to the rows of a plan.
-use Rattle.std.proofs.Common.{◌≡◌, ℕ, zero, suc, ◌<◌, Bool, true, false, cond, drop, get_or, length, List, [], ◌∷◌, Contains, Option, Some, None, IsSome, refl, sym, ap, ◌∙◌, subst, inl, inr, ⊎_elim, ◌⊎◌, arith}
-use Rattle.std.specs.Option.{option_map, option_or}
+use Rattle.std.proofs.Common.{◌≡◌, ℕ, zero, suc, ◌<◌, Bool, true, false, cond, drop, get_or, length, List, [], ◌∷◌, Contains, Option, Some, None, IsSome, refl, sym, ap, ◌∙◌, subst, inl, inr, ◌⊎◌, arith}
+use Rattle.std.specs.Option.{option_map}
 use Rattle.std.specs.Str.{bytes_eq}
 use Rattle.std.specs.Ordering.{is_eq}
 use Rattle.std.specs.BTreeMap as tree
 use Rattle.std.proofs.lemmas.Option.{none-some, same_Some}
 use Rattle.std.proofs.lemmas.Slice.Eq.{bytes_eq-Decides}
-use Rattle.cd_base.specs.declared.hash.Hash256.{Hash256}
 use Rattle.cd_cell.specs.declared.new_cell.NewCell.{NewCell}
-use Rattle.cd_cell.specs.FaceView.{FaceView}
 use Rattle.cd_cell.specs.Export.{hash_cmp}
 use Rattle.cd_cell.proofs.Subtrees.{Contains-first, Contains-later, Contains-cases}
 use Rattle.cd_record.specs.declared.record.Record.{Record}
 use Rattle.cd_count.specs.declared.rows.Row.{Row}
-use Rattle.cd_count.specs.PlanSteps.{RowMap, first_row, row_at, count_of_row, count_at}
+use Rattle.cd_count.specs.PlanSteps.{RowMap, first_row, row_at, count_of_row}
 use Rattle.cd_count.specs.PlanGiving.{listed_row, IsListed, IsRowRight, AreListed}
 use Rattle.cd_count.proofs.Steps.{row_at-set, same_is}
 

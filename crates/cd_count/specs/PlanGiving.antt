@@ -1,5 +1,5 @@
 -- Inner: how the rows of a plan that is under way change as a block comes.
-use Rattle.std.specs.Prelude.{◌≡◌, ℕ, ◌+◌, ◌≤◌, nat_lt, ◌&&◌, Bool, false, not, cond, is_some, fold, List, [], ◌∷◌, Contains, Option, Some, None, IsSome, IfSome}
+use Rattle.std.specs.Prelude.{◌≡◌, ℕ, ◌+◌, ◌≤◌, nat_lt, ◌&&◌, Bool, false, not, cond, is_some, fold, List, [], Contains, Option, Some, None, IsSome, IfSome}
 use Rattle.std.specs.Option.{option_map, unwrap_or}
 use Rattle.std.specs.List.{flat_map, AllByRecursion}
 use Rattle.std.specs.Str.{bytes_eq}

@@ -31,7 +31,6 @@ use cd_base::Hash256;
 use cd_cell::NewCell;
 use cd_keeper::Keeper;
 
-
 /// The cell with the lesser hash.
 fn lesser<'a>(cell: &'a NewCell, other: Option<&'a NewCell>) -> &'a NewCell
     ensures { (H : List ℕ → Hash256) → result.now ≡ told.lesser H cell.now (option_map (λ r. r.now) other.entry) }

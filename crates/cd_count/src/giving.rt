@@ -113,11 +113,7 @@ fn give_references<K: Keeper>(
 }
 
 /// Gives the children of a listed cell one reference for each place, unless the cell is stored already.
-fn give_kids<K: Keeper>(
-    rows: &mut Rows,
-    keeper: &mut K,
-    cell: &NewCell,
-) -> Result<(), CountFault>
+fn give_kids<K: Keeper>(rows: &mut Rows, keeper: &mut K, cell: &NewCell) -> Result<(), CountFault>
     ensures given { OnOk result (IfSome (K.held keeper.old) (λ contents. AreGiven (stored_in contents) rows.old
         (due_kids (fixed_at (stored_in contents) rows.old cell.now.hash.0) cell.now.face) rows.new)) }
     ensures keeps { KeepsHeld K.held K.trail K.batches keeper.old keeper.new }

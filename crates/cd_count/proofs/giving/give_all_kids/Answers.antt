@@ -1,11 +1,10 @@
-use Rattle.std.proofs.Common.{◌≡◌, ℕ, ◌+◌, ◌*◌, ◌<◌, List, [], ◌∷◌, ◌++◌, map, take, length, get_or, flat_map, Option, IfSome, sym, ap, ◌∙◌, subst, arith, refl}
+use Rattle.std.proofs.Common.{◌≡◌, ℕ, ◌+◌, ◌<◌, List, [], ◌∷◌, ◌++◌, take, length, flat_map, Option, IfSome, sym, ap, ◌∙◌, subst, arith}
 use Rattle.std.proofs.lemmas.List.{take_more}
-use Rattle.cd_base.specs.declared.hash.Hash256.{Hash256}
 use Rattle.cd_cell.specs.declared.new_cell.NewCell.{NewCell}
 use Rattle.cd_cell.specs.FaceView.{FaceView}
 use Rattle.cd_keeper.specs.Contents.{Contents}
 use Rattle.cd_count.specs.Reading.{stored_in}
-use Rattle.cd_count.specs.PlanSteps.{RowMap, fixed_at}
+use Rattle.cd_count.specs.PlanSteps.{fixed_at}
 use Rattle.cd_count.specs.PlanGiving.{AreGiven, due_kids, due_of}
 use Rattle.cd_count.proofs.Steps.{if_both}
 use Rattle.cd_count.proofs.Gives.{given-more, flat_map-push}

@@ -1,4 +1,4 @@
-use Rattle.std.proofs.Common.{◌≡◌, ◌+◌, ◌*◌, ◌≤◌, take, length, IfSome}
+use Rattle.std.proofs.Common.{◌≡◌, ◌+◌, ◌*◌, ◌≤◌, take, IfSome}
 use Rattle.cd_keeper.specs.Keeping.{KeepsHeld}
 use Rattle.cd_count.specs.Reading.{stored_in}
 use Rattle.cd_count.specs.PlanRows.{rows_of}

@@ -1,12 +1,12 @@
-use Rattle.std.proofs.Common.{◌≡◌, ℕ, ◌+◌, ◌<◌, List, [], ◌∷◌, ◌++◌, map, take, length, get_or, Option, IfSome, sym, ap, ◌∙◌, subst, arith, refl}
+use Rattle.std.proofs.Common.{◌≡◌, ℕ, ◌+◌, ◌<◌, List, [], ◌∷◌, ◌++◌, map, take, length, get_or, Option, IfSome, sym, ap, ◌∙◌, subst, arith}
 use Rattle.std.proofs.lemmas.List.{map_push, take_more}
 use Rattle.cd_base.specs.declared.hash.Hash256.{Hash256}
 use Rattle.cd_keeper.specs.Contents.{Contents}
 use Rattle.cd_keeper.specs.Shown.{hash_bytes}
 use Rattle.cd_count.specs.Reading.{stored_in}
 use Rattle.cd_count.specs.PlanGiving.{AreGiven}
-use Rattle.cd_count.proofs.Steps.{if_both, if_some}
-use Rattle.cd_count.proofs.Gives.{given-nothing, given-more}
+use Rattle.cd_count.proofs.Steps.{if_both}
+use Rattle.cd_count.proofs.Gives.{given-more}
 use Rattle.cd_count.proofs.giving.give_references.Goals as goal
 
 pub loop-hash-preserved : goal.loop-hash-preserved

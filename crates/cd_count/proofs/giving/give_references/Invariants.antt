@@ -1,4 +1,4 @@
-use Rattle.std.proofs.Common.{◌≡◌, ◌+◌, ◌≤◌, take, map, length, IfSome}
+use Rattle.std.proofs.Common.{◌≡◌, ◌+◌, ◌≤◌, take, map, IfSome}
 use Rattle.cd_keeper.specs.Keeping.{KeepsHeld}
 use Rattle.cd_keeper.specs.Shown.{hash_bytes}
 use Rattle.cd_count.specs.Reading.{stored_in}

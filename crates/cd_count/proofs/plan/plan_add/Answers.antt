@@ -19,7 +19,7 @@ use Rattle.cd_count.specs.Changes.{AreAdded}
 use Rattle.cd_count.specs.Bringing.{unheld, IsBrought, HaveCome}
 use Rattle.cd_count.specs.Clashes.{RefusesClash}
 use Rattle.cd_count.specs.PlanGiving.{is_another, AreListed, AreRowsGood, rises_over}
-use Rattle.cd_count.specs.PlanRows.{rows_of, AreRowsFit}
+use Rattle.cd_count.specs.PlanRows.{rows_of}
 use Rattle.cd_count.specs.Reading.{stored_in}
 use Rattle.cd_count.specs.SoundContents.{AreSoundContents}
 use Rattle.cd_count.proofs.BatchKeys.{once-sorted}
