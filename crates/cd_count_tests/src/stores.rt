@@ -80,14 +80,16 @@ pub fn put_cells<H: Hash32>(
     alloc: Global,
     keeper: &mut SteadyKeeper,
     state: &Prepared<H>,
-    counts: &[u64],
+    counts: &[u32],
 ) -> Result<(), Fail> {
     for (cell, count) in state.cells().iter().zip(counts.iter()) {
-        let record = Record {
-            count: *count,
-            face: cell.face,
-        };
-        keeper.put_raw_cell(cell.hash, encode_v1(alloc, &record)?)?;
+        if *count > 0 {
+            let record = Record {
+                count: u64::from(*count),
+                face: cell.face,
+            };
+            keeper.put_raw_cell(cell.hash, encode_v1(alloc, &record)?)?;
+        }
     }
     Ok(())
 }
