@@ -1,23 +1,26 @@
 -- What the plan of a block that comes stands on.
-use Rattle.std.proofs.Common.{◌≡◌, ℕ, suc, ◌<◌, ◌≤◌, ◌&&◌, Bool, true, false, cond, filter, find, List, [], ◌∷◌, length, Contains, Option, Some, None, IfSome, IsSome, nat_lt, refl, sym, ap, ◌∙◌, subst, arith, ⊎_elim}
+use Rattle.std.proofs.Common.{◌≡◌, ℕ, suc, ◌<◌, ◌≤◌, ◌&&◌, Bool, true, false, cond, filter, find, List, [], ◌∷◌, length, map, Contains, Option, Some, None, IfSome, IsSome, nat_lt, refl, sym, ap, ◌∙◌, subst, arith, ⊎_elim}
 use Rattle.std.specs.Prelude.{slice_index_or, Result, Ok, Err}
 use Rattle.cd_count.specs.declared.count_fault.CountFault.{CountFault}
 use Rattle.cd_count.specs.declared.count_fault.CountFault.TheVariants.{Clash, CountFull, Keeper, Memory}
-use Rattle.cd_count.specs.Clashes.{IsOutside, RefusesClash}
+use Rattle.cd_count.specs.Clashes.{IsOutside, RefusesClash, RefusesFull}
 use Rattle.std.specs.Option.{option_map, option_or, option_and_then, option_map_or, unwrap_or}
-use Rattle.std.specs.List.{AllByRecursion}
+use Rattle.std.specs.List.{AllByRecursion, IsDistinct}
+use Rattle.std.specs.Str.{bytes_eq}
 use Rattle.std.specs.Ordering.{nat_cmp, is_lt}
 use Rattle.std.specs.Cmp.Lexicographic.{slice_cmp}
 use Rattle.std.specs.Map.{lookup}
 use Rattle.std.specs.BTreeMap as tree
 use Rattle.std.proofs.lemmas.Bool.{ltb-false}
 use Rattle.std.proofs.lemmas.Option.{none-some, same_Some}
+use Rattle.std.proofs.lemmas.Slice.Eq.{bytes_eq-Decides}
 use Rattle.cd_base.specs.declared.hash.Hash256.{Hash256}
 use Rattle.cd_cell.specs.declared.new_cell.NewCell.{NewCell}
 use Rattle.cd_cell.specs.FaceView.{FaceView}
 use Rattle.cd_cell.specs.Fit.{IsFaceFit}
 use Rattle.cd_cell.specs.GoodFace.{IsGoodFace}
-use Rattle.cd_cell.specs.Listings.{no_cell}
+use Rattle.cd_cell.specs.Listings.{no_cell, new_cell_of, IsValid}
+use Rattle.cd_cell.specs.declared.info.ChildInfo.{ChildInfo}
 use Rattle.cd_cell.specs.Tree.{Tree, face_of, subtrees}
 use Rattle.cd_cell.specs.Export.{hash_cmp}
 use Rattle.cd_cell.proofs.Subtrees.{Contains-nil, Contains-first, Contains-later, Contains-cases, flat_map-listed, flat_map-cases}
@@ -31,7 +34,7 @@ use Rattle.cd_world.specs.World.{Block, World}
 use Rattle.cd_world.specs.Told as told
 use Rattle.cd_world.specs.Told.{ToldWorld, shown}
 use Rattle.cd_count.specs.declared.rows.Row.{Row}
-use Rattle.cd_count.specs.Changes.{states, held_under, AreAdded}
+use Rattle.cd_count.specs.Changes.{states, rep_bytes, held_under, AreAdded}
 use Rattle.cd_count.specs.Bringing.{unheld, IsBrought, HaveCome}
 use Rattle.cd_count.specs.PlanRows.{row_of, rows_of, IsRowFit, AreRowsFit}
 use Rattle.cd_count.specs.PlanSteps.{RowMap, first_row, count_of_row}
@@ -47,6 +50,23 @@ use Rattle.cd_count.proofs.Nothing.{same, none-dead}
 pub all-fit : (cells : List NewCell) → ((k : ℕ) → k < length cells → IsGoodFace (slice_index_or cells k no_cell).face) → AllByRecursion (λ c. IsFaceFit c.face) cells
 all-fit [] good = tt
 all-fit (c ∷ cs) good = (let first = good 0 (omega arith) in first.fit, all-fit cs (λ k h. good (suc k) (omega (arith, h))))
+
+-- the hashes of a valid list are distinct
+unlike : (c : NewCell) (cs : List NewCell) → ((j : ℕ) → j < length cs → c.hash ≡ (slice_index_or cs j no_cell).hash → ⊥) → AllByRecursion (λ y. bytes_eq c.hash.0 y ≡ false) (map (λ x. x.hash.0) cs)
+unlike c [] apart = tt
+unlike c (x ∷ xs) apart = (by (bytes_eq c.hash.0 x.hash.0) refl, unlike c xs (λ j l e. apart (suc j) (omega (arith, l)) e))
+  where
+    by : (b : Bool) → bytes_eq c.hash.0 x.hash.0 ≡ b → bytes_eq c.hash.0 x.hash.0 ≡ false
+    by false e = e
+    by true e = let same = (bytes_eq-Decides c.hash.0 x.hash.0).0 e in absurd (apart 0 (omega arith) (λ i. record { 0 = same i }))
+
+all-unlike : (cells : List NewCell) → ((i j : ℕ) → i < length cells → j < length cells → (slice_index_or cells i no_cell).hash ≡ (slice_index_or cells j no_cell).hash → i ≡ j)
+    → IsDistinct bytes_eq (map (λ x. x.hash.0) cells)
+unfolding IsDistinct
+all-unlike [] apart = tt
+all-unlike (c ∷ cs) apart =
+    (unlike c cs (λ j l e. let never = apart 0 (suc j) (omega arith) (omega (arith, l)) e in omega (arith, never)),
+    all-unlike cs (λ i j li lj e. let same = apart (suc i) (suc j) (omega (arith, li)) (omega (arith, lj)) e in omega (arith, same)))
 
 -- no cell is listed yet
 pub none-listed : (stored : List ℕ → Option Record) (rows : RowMap) → rows.entries ≡ [] → AreListed stored [] rows
@@ -70,15 +90,24 @@ none-listed stored rows empty = record {
         }
 
 module _ (H : List ℕ → Hash256) where
+  keys-named : (listed : List Tree) → map (λ x. x.hash.0) (map (new_cell_of H) listed) ≡ map (rep_bytes H) listed
+  keys-named [] = refl
+  keys-named (t ∷ ts) = ap (λ ks. rep_bytes H t ∷ ks) (keys-named ts)
+
+  -- and so are those of the trees that it lists
+  pub valid-distinct : (root : ChildInfo) (cells : List NewCell) → IsValid H root cells → (listed : List Tree) → map (new_cell_of H) listed ≡ cells → IsDistinct bytes_eq (map (rep_bytes H) listed)
+  valid-distinct root cells valid listed named =
+      subst (IsDistinct bytes_eq) (sym (ap (map (λ (x : NewCell). x.hash.0)) named) ∙ keys-named listed) (all-unlike cells valid.distinct)
+
   -- the plan of the rows once a block came
-  pub come-added : (old grown : World) (block : Block) (cells : List NewCell) (listed : List Tree) → (so : IsBrought H old grown block cells listed) → (rows : RowMap)
+  pub come-added : (old grown : World) (block : Block) (cells : List NewCell) (listed : List Tree) → (so : IsBrought H old grown block cells listed) → IsDistinct bytes_eq (map (rep_bytes H) listed) → (rows : RowMap)
       → HaveCome H old grown block (unheld H old listed) (rows_of rows.entries) → plans.HasNoKeyTwice (slice_cmp nat_cmp) (rows_of rows.entries)
       → AreAdded H old grown (block ∷ []) (unheld H old listed) (rows_of rows.entries)
-  come-added old grown block cells listed so rows have once = record {
+  come-added old grown block cells listed so distinct rows have once = record {
     came = so.came;
     went = same H grown so.clear;
     clash_free = so.clear;
-    new = new_cells_listed H old (block ∷ []) grown.blocks listed so.came so.distinct
+    new = new_cells_listed H old (block ∷ []) grown.blocks listed so.came distinct
         (λ c h. flat_map-listed (states (block ∷ [])) block.state c (Contains-first block.state []) (so.within c h))
         (λ c h. so.every c (of_block c (flat_map-cases (states (block ∷ [])) c h)));
     ended = none-dead H grown so.clear;
@@ -176,3 +205,29 @@ limit-refuses first None fault result e is none = absurd cc
 limit-refuses {T} first (Some x) fault result e is none =
     let same_fault : CountFull x.0 x.1.count ≡ fault = cc in
     subst (λ (r : Result T CountFault). RefusesClash first r) (ap (λ (f : CountFault). Err f) same_fault ∙ sym is) none
+
+-- ---- the same of counts
+
+pub clash-fills : {T : Type 0} (first : Option Refusal) (hash : Hash256) (stored offered : FaceView) (fault : CountFault) (result : Result T CountFault)
+    → result ≡ Err fault → fault ≡ Clash hash stored offered → RefusesFull first result
+clash-fills {T} first hash stored offered fault result is clash = subst (λ (r : Result T CountFault). RefusesFull first r) (sym (is ∙ ap (λ (f : CountFault). Err f) clash)) tt
+
+pub outside-fills : {T : Type 0} (first : Option Refusal) (fault : CountFault) (result : Result T CountFault) → result ≡ Err fault → IsOutside fault → RefusesFull first result
+outside-fills {T} first fault result is out = subst (λ (r : Result T CountFault). RefusesFull first r) (sym is) (refuses fault out)
+  where
+    refuses : (f : CountFault) → IsOutside f → RefusesFull {T = T} first (Err f)
+    refuses Keeper out = tt
+    refuses Memory out = tt
+    refuses (Clash hash stored offered) out = absurd out
+    refuses (CountFull hash count) out = absurd out
+
+pub limit-fills : {T : Type 0} (first : Option Refusal) (o : Option (Hash256 × Row)) (fault : CountFault) (result : Result T CountFault)
+    → within_limit o ≡ Err fault → result ≡ Err fault → first ≡ option_map (λ (e : Hash256 × Row). refusal.CountFull e.0 e.1.count) o → RefusesFull first result
+limit-fills first None fault result e is first_is = absurd cc
+limit-fills {T} first (Some x) fault result e is first_is =
+    let same_fault : CountFull x.0 x.1.count ≡ fault = cc in
+    subst (λ (r : Result T CountFault). RefusesFull first r) (ap (λ (f : CountFault). Err f) same_fault ∙ sym is) first_is
+
+pub within-fills : (first : Option Refusal) (o : Option (Hash256 × Row)) → within_limit o ≡ Ok tt → first ≡ option_map (λ (e : Hash256 × Row). refusal.CountFull e.0 e.1.count) o → first ≡ None
+within-fills first None e is = is
+within-fills first (Some x) e is = absurd cc

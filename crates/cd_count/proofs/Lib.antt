@@ -9,5 +9,6 @@ pub mod Gives
 pub mod GoodRows
 pub mod Listing
 pub mod Nothing
+pub mod Overflows
 pub mod Readable
 pub mod Steps

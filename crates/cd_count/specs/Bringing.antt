@@ -1,7 +1,5 @@
 -- Trusted: a block that comes to a world, and the list of its cells.
 use Rattle.std.specs.Prelude.{◌≡◌, ◌⊎◌, ℕ, IsSome, is_none, List, [], ◌∷◌, map, filter, Contains}
-use Rattle.std.specs.List.{IsDistinct}
-use Rattle.std.specs.Str.{bytes_eq}
 use Rattle.cd_base.specs.declared.hash.Hash256.{Hash256}
 use Rattle.cd_cell.specs.declared.new_cell.NewCell.{NewCell}
 use Rattle.cd_cell.specs.Tree.{Tree, subtrees, face_of}
@@ -22,7 +20,6 @@ module _ (H : List ℕ → Hash256) where
     pub came : AreTogether H old.blocks (block ∷ []) grown.blocks
     pub clear : AreClashFree H (states grown.blocks)
     pub named : map (new_cell_of H) listed ≡ cells
-    pub distinct : IsDistinct bytes_eq (map (rep_bytes H) listed)
     pub within : (c : Tree) → Contains listed c → Contains (subtrees block.state) c
     pub every : (c : Tree) → Contains (subtrees block.state) c
         → Contains listed c ⊎ IsSome (held_under H old (rep_bytes H c))

@@ -13,7 +13,7 @@ ghost use Rattle.cd_cell.specs.Infos.{rep_of_info};
 ghost use Rattle.cd_record.specs.declared.limits.TheConstants.{GREATEST_COUNT};
 ghost use Rattle.cd_world.specs.Told as told;
 ghost use Rattle.cd_count.specs.Bringing.{unheld, IsBrought};
-ghost use Rattle.cd_count.specs.Clashes.{RefusesClash};
+ghost use Rattle.cd_count.specs.Clashes.{RefusesClash, RefusesFull};
 ghost use Rattle.cd_world.specs.Told.{ToldWorld, shown};
 ghost use Rattle.std.specs.List.{IsDistinct, AllByRecursion};
 ghost use Rattle.std.specs.Option.{option_to_list};
@@ -186,6 +186,11 @@ pub fn plan_add<K: Keeper, H: Hash32>(
     ensures clash { IfSome (K.held keeper.old) (λ contents. (old : ToldWorld)
         → AreSoundContents H.digest_of old contents
         → RefusesClash (told.first_clash H.digest_of old prepared.now.cells) result) }
+    ensures full { IfSome (K.held keeper.old) (λ contents. (old grown : ToldWorld) (block : Block) (listed : List Tree)
+        → AreSoundContents H.digest_of old contents
+        → IsBrought H.digest_of (shown old) (shown grown) block prepared.now.cells listed
+        → rep_of H.digest_of block.state ≡ rep_of_info prepared.now.root
+        → RefusesFull (told.first_overflow H.digest_of limit old grown) result) }
     ensures keeps { KeepsHeld K.held K.trail K.batches keeper.old keeper.new }
     ensures reads { K.reads keeper.new ≤ K.reads keeper.old + (5 * length prepared.now.cells + 1) }
     ensures cause { HasCountCause (K.faults keeper.old) (K.faults keeper.new) result }
@@ -197,9 +202,9 @@ pub fn plan_add<K: Keeper, H: Hash32>(
     }
     let root = prepared.root().rep();
     add_rows(&mut rows, keeper, cells, &root)?;
-    check_limit(&rows, limit)?;
     // Tells that the hashes are in order.
     let _ = rows.len();
+    check_limit(&rows, limit)?;
     Ok(Plan { rows })
 }
 
