@@ -64,9 +64,10 @@ all-unlike : (cells : List NewCell) → ((i j : ℕ) → i < length cells → j 
     → IsDistinct bytes_eq (map (λ x. x.hash.0) cells)
 unfolding IsDistinct
 all-unlike [] apart = tt
-all-unlike (c ∷ cs) apart =
-    (unlike c cs (λ j l e. let never = apart 0 (suc j) (omega arith) (omega (arith, l)) e in omega (arith, never)),
-    all-unlike cs (λ i j li lj e. let same = apart (suc i) (suc j) (omega (arith, li)) (omega (arith, lj)) e in omega (arith, same)))
+all-unlike (c ∷ cs) apart = (
+  unlike c cs (λ j l e. let never = apart 0 (suc j) (omega arith) (omega (arith, l)) e in omega (arith, never)),
+  all-unlike cs (λ i j li lj e. let same = apart (suc i) (suc j) (omega (arith, li)) (omega (arith, lj)) e in omega (arith, same)),
+)
 
 -- no cell is listed yet
 pub none-listed : (stored : List ℕ → Option Record) (rows : RowMap) → rows.entries ≡ [] → AreListed stored [] rows

@@ -94,7 +94,7 @@ pub same_first : {X Y : Type 0} (p : Key → Bool) (es : List (Key × X)) (fs : 
 same_first p es fs sorted_es sorted_fs alike =
     sym (first-marks p es)
     ∙ ap first (same_entries by_key nat_list_cmp_total same (where_key by_key p (marks es)) (where_key by_key p (marks fs))
-        (is_sorted-where_key by_key p (marks es) (sorted-marks es sorted_es)) (is_sorted-where_key by_key p (marks fs) (sorted-marks fs sorted_fs)) at)
+    (is_sorted-where_key by_key p (marks es) (sorted-marks es sorted_es)) (is_sorted-where_key by_key p (marks fs) (sorted-marks fs sorted_fs)) at)
     ∙ first-marks p fs
   where
     same : (x y : Key) → by_key x y ≡ Equal → x ≡ y
