@@ -127,7 +127,7 @@ module _ (H : List ℕ → Hash256) where
     free_left : nodes.AreClashFree (cell_graph H) states_left
     free_left = clash_free-few (cell_graph H) (is_graph H) states_left (states gone) (states grown.blocks) are.went free_grown
 
-    is_plan : plans.IsPlan (cell_graph H) (face_of H) states_old states_left (row_in rows)
+    pub is_plan : plans.IsPlan (cell_graph H) (face_of H) states_old states_left (row_in rows)
     is_plan =
         plan_is (cell_graph H) (is_graph H) (face_of H) record_text states_old (states come) (states grown.blocks) (states gone) states_left are.came are.went free_grown news dead are.new are.ended (row_in rows) are.rows_are
 

@@ -76,18 +76,18 @@ find-rows h (e ∷ es) =
       | false ↦ find-rows h es
     ]
 
-row_in-at : (rows : RowMap) (q : List ℕ) → row_in (rows_of rows.entries) q ≡ option_map row_of (tree.get hash_cmp rows (record { 0 = q }))
+pub row_in-at : (rows : RowMap) (q : List ℕ) → row_in (rows_of rows.entries) q ≡ option_map row_of (tree.get hash_cmp rows (record { 0 = q }))
 row_in-at rows q = find-rows (record { 0 = q }) rows.entries
 
-unmapped : (o : Option Row) (p : plans.Row FaceView) → option_map row_of o ≡ Some p → (r : Row) × (o ≡ Some r) × (row_of r ≡ p)
+pub unmapped : (o : Option Row) (p : plans.Row FaceView) → option_map row_of o ≡ Some p → (r : Row) × (o ≡ Some r) × (row_of r ≡ p)
 unmapped None p e = cc
 unmapped (Some r) p e = (r, refl, cc)
 
-fixed-of : (o : Option Row) (p : Option ℕ × FaceView) → option_map fixed_part o ≡ Some p → (r : Row) × (o ≡ Some r) × (fixed_part r ≡ p)
+pub fixed-of : (o : Option Row) (p : Option ℕ × FaceView) → option_map fixed_part o ≡ Some p → (r : Row) × (o ≡ Some r) × (fixed_part r ≡ p)
 fixed-of None p e = cc
 fixed-of (Some r) p e = (r, refl, cc)
 
-kid_bytes-children : (H : List ℕ → Hash256) (ts : List Tree) → map hash_bytes (map rep_of_info (map (info_of H) ts)) ≡ map (rep_bytes H) ts
+pub kid_bytes-children : (H : List ℕ → Hash256) (ts : List Tree) → map hash_bytes (map rep_of_info (map (info_of H) ts)) ≡ map (rep_bytes H) ts
 kid_bytes-children H [] = refl
 kid_bytes-children H (t ∷ ts) = ap (λ ks. rep_bytes H t ∷ ks) (kid_bytes-children H ts)
 

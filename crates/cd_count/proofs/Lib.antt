@@ -1,8 +1,14 @@
+pub mod Adds
 pub mod BatchKeys
 pub mod CellGraph
 pub mod Changes
+pub mod Comes
 pub mod Drops
 pub mod FitRows
+pub mod Gives
+pub mod GoodRows
+pub mod Listing
 pub mod Nothing
+pub mod Overflows
 pub mod Readable
 pub mod Steps

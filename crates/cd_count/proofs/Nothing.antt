@@ -33,7 +33,7 @@ module _ (H : List ℕ → Hash256) (world : World) (clear : AreClashFree H (sta
   free : nodes.AreClashFree G roots
   free = clash_free H roots clear
 
-  same : AreTogether H world.blocks [] world.blocks
+  pub same : AreTogether H world.blocks [] world.blocks
   same = record {
     has = λ t h. inl h;
     first = λ t h. h;
@@ -49,7 +49,7 @@ module _ (H : List ℕ → Hash256) (world : World) (clear : AreClashFree H (sta
     every = λ c h none. absurd (not_both c (nodes.held_at G roots (rep_bytes H c)) none (held_of G (is_graph H) roots free c h));
   }
 
-  none-dead : AreDeadCells H world.blocks [] []
+  pub none-dead : AreDeadCells H world.blocks [] []
   none-dead = record {
     distinct = no_pairs;
     held_now = λ c h. absurd (Contains-nil c h);

@@ -1,5 +1,9 @@
+pub mod Bringing
 pub mod Changes
+pub mod Clashes
 pub mod Laws
+pub mod Limits
+pub mod PlanGiving
 pub mod PlanRows
 pub mod PlanSteps
 pub mod PlanWorlds

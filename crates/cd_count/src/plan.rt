@@ -7,6 +7,13 @@ ghost use Rattle.cd_world.specs.World.{World, Block};
 ghost use Rattle.cd_count.specs.Reading.{HasCountCause};
 ghost use Rattle.cd_count.specs.PlanWorlds.{IsReadable, IsDropped};
 ghost use Rattle.cd_count.specs.SoundContents.{AreSoundContents};
+ghost use Rattle.std.specs.Prelude.{◌∷◌};
+ghost use Rattle.cd_cell.specs.Tree.{rep_of};
+ghost use Rattle.cd_cell.specs.Infos.{rep_of_info};
+ghost use Rattle.cd_record.specs.declared.limits.TheConstants.{GREATEST_COUNT};
+ghost use Rattle.cd_world.specs.Told as told;
+ghost use Rattle.cd_count.specs.Bringing.{unheld, IsBrought};
+ghost use Rattle.cd_count.specs.Clashes.{RefusesClash, RefusesFull};
 ghost use Rattle.cd_world.specs.Told.{ToldWorld, shown};
 ghost use Rattle.std.specs.List.{IsDistinct, AllByRecursion};
 ghost use Rattle.std.specs.Option.{option_to_list};
@@ -22,10 +29,12 @@ ghost use Rattle.cd_record.specs.RecordText.{record_text};
 ghost use Rattle.cd_count.specs.Changes.{states, rep_bytes, AreTogether, AreCounted, AreAdded, IsCellBatch};
 ghost use Rattle.cd_count.specs.PlanRows.{row_of, rows_of, IsRowFit, AreRowsFit, descr_puts};
 
+use crate::adding::{add_rows, check_limit, clash_of, list_cells};
 use crate::count_fault::CountFault;
 use crate::rows::{Row, Rows, take_kids, take_references};
 use cd_base::{Hash256, Memory};
 use cd_block::{BlockId, Descr, encode_descr};
+use cd_cell::{Hash32, Prepared};
 use cd_keeper::{Batch, Keeper};
 use cd_record::encode_cell;
 use std::alloc::Global;
@@ -156,6 +165,47 @@ fn keys_of(alloc: Global, ids: &[BlockId]) -> Result<Vec<[u8; 80]>, Memory>
         keys.push(id.to_key())?;
     }
     Ok(keys)
+}
+
+/// The counts once a block with the value's tree comes. Each listed cell is compared with what is stored; a cell that
+/// is stored already adds nothing to its children, and a new one adds one to each of its child places. Reads at most
+/// `5n + 1` records for n listed cells.
+pub fn plan_add<K: Keeper, H: Hash32>(
+    alloc: Global,
+    keeper: &mut K,
+    prepared: &Prepared<H>,
+    limit: u64,
+) -> Result<Plan, CountFault>
+    requires { limit ≤ GREATEST_COUNT }
+    ensures added { IfOk result (λ plan. IfSome (K.held keeper.old) (λ contents.
+        (old : ToldWorld) (grown : World) (block : Block) (listed : List Tree)
+        → AreSoundContents H.digest_of old contents
+        → IsBrought H.digest_of (shown old) grown block prepared.now.cells listed
+        → rep_of H.digest_of block.state ≡ rep_of_info prepared.now.root
+        → AreAdded H.digest_of (shown old) grown (block ∷ []) (unheld H.digest_of (shown old) listed) plan)) }
+    ensures clash { IfSome (K.held keeper.old) (λ contents. (old : ToldWorld)
+        → AreSoundContents H.digest_of old contents
+        → RefusesClash (told.first_clash H.digest_of old prepared.now.cells) result) }
+    ensures full { IfSome (K.held keeper.old) (λ contents. (old grown : ToldWorld) (block : Block) (listed : List Tree)
+        → AreSoundContents H.digest_of old contents
+        → IsBrought H.digest_of (shown old) (shown grown) block prepared.now.cells listed
+        → rep_of H.digest_of block.state ≡ rep_of_info prepared.now.root
+        → RefusesFull (told.first_overflow H.digest_of limit old grown) result) }
+    ensures keeps { KeepsHeld K.held K.trail K.batches keeper.old keeper.new }
+    ensures reads { K.reads keeper.new ≤ K.reads keeper.old + (5 * length prepared.now.cells + 1) }
+    ensures cause { HasCountCause (K.faults keeper.old) (K.faults keeper.new) result }
+{
+    let cells = prepared.cells();
+    let mut rows = BTreeMap::new(alloc);
+    if let Some(cell) = list_cells(&mut rows, keeper, cells)? {
+        return Err(clash_of(&rows, cell));
+    }
+    let root = prepared.root().rep();
+    add_rows(&mut rows, keeper, cells, &root)?;
+    // Tells that the hashes are in order.
+    let _ = rows.len();
+    check_limit(&rows, limit)?;
+    Ok(Plan { rows })
 }
 
 /// The plan's counts once blocks with these roots go, one for each time that a root stands here. A cell whose count

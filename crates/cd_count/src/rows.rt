@@ -1,6 +1,6 @@
 //! What a plan has of each hash while it is made.
 
-ghost use Rattle.std.specs.Prelude.{◌≡◌, ◌+◌, ◌-◌, ◌≤◌, map, take, length, Some, IfSome, IfOk, OnOk};
+ghost use Rattle.std.specs.Prelude.{◌≡◌, ◌+◌, ◌-◌, ◌≤◌, map, take, length, Some, IfSome, IfOk, IfErr, OnOk};
 ghost use Rattle.cd_cell.specs.Infos.{rep_of_info};
 ghost use Rattle.cd_keeper.specs.Shown.{hash_bytes};
 ghost use Rattle.cd_keeper.specs.Keeping.{KeepsHeld};
@@ -10,6 +10,7 @@ ghost use Rattle.std.specs.BTreeMap as tree;
 ghost use Rattle.cd_cell.specs.Export.{hash_cmp};
 ghost use Rattle.cd_count.specs.declared.rows.Row.{Row};
 ghost use Rattle.cd_count.specs.PlanRows.{row_of, rows_of, IsRowFit, AreRowsFit};
+ghost use Rattle.cd_count.specs.Clashes.{IsOutside};
 
 use crate::count_fault::CountFault;
 use cd_base::Hash256;
@@ -38,6 +39,7 @@ pub fn read_record<K: Keeper>(keeper: &mut K, hash: &Hash256) -> Result<Option<R
     ensures keeps { KeepsHeld K.held K.trail K.batches keeper.old keeper.new }
     ensures reads { K.reads keeper.new ≤ K.reads keeper.old + 1 }
     ensures cause { HasCountCause (K.faults keeper.old) (K.faults keeper.new) result }
+    ensures outside { IfErr result IsOutside }
 {
     match keeper.get_cell(hash)? {
         Some(bytes) => Ok(decode(bytes.as_slice()).ok()),
@@ -46,7 +48,7 @@ pub fn read_record<K: Keeper>(keeper: &mut K, hash: &Hash256) -> Result<Option<R
 }
 
 /// The row of a stored cell before anything changes.
-fn first_row(found: Record) -> Row
+pub fn first_row(found: Record) -> Row
     ensures { result ≡ first_row found }
 {
     Row {

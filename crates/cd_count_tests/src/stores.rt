@@ -3,7 +3,7 @@
 use cd_base::Hash256;
 use cd_boc_read::read_bag;
 use cd_cell::{Bag, Hash32, Prepared};
-use cd_count::{Plan, plan_drop};
+use cd_count::{CountFault, Plan, plan_add, plan_drop};
 use cd_keeper::{Batch, Keeper, SteadyKeeper};
 use cd_prepare::prepare_zero;
 use cd_record::{Record, decode, encode_v1};
@@ -92,6 +92,23 @@ pub(crate) fn put_cells<H: Hash32>(
         }
     }
     Ok(())
+}
+
+/// Stores a state, and gives the batch that did, or the refusal.
+pub(crate) fn store<K: Keeper, H: Hash32>(
+    alloc: Global,
+    keeper: &mut K,
+    prepared: &Prepared<H>,
+    limit: u32,
+) -> Result<Result<Batch, CountFault>, Fail> {
+    match plan_add(alloc, keeper, prepared, u64::from(limit)) {
+        Ok(plan) => {
+            let batch = batch_of(alloc, plan)?;
+            keeper.apply(&batch).ok().ok_or("no room")?;
+            Ok(Ok(batch))
+        }
+        Err(fault) => Ok(Err(fault)),
+    }
 }
 
 /// Drops states with these roots, and gives the batch that did.
