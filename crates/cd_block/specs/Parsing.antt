@@ -1,4 +1,4 @@
--- Inner: reading the spelling of an id from left to right. That it reads what is spelt, and nothing else, is a law.
+-- Trusted: reading the spelling of an id from left to right. That it reads what is spelt, and nothing else, is a law.
 use Rattle.std.specs.Prelude.{ℕ, zero, suc, ◌^◌, ◌==◌, ◌&&◌, nat_lt, not, Bool, false, ℤ, pos, negsuc, List, [], ◌∷◌, Option, Some, None, if◌then◌else◌}
 use Rattle.std.specs.Option.{option_map}
 use Rattle.std.specs.Result.{result_ok}

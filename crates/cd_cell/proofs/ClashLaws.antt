@@ -1,8 +1,7 @@
 -- Two different cells of one hash, by sorted keys, and in lists of faces.
-use Rattle.std.proofs.Common.{◌≡◌, ◌≢◌, ℕ, zero, suc, ◌+◌, ◌-◌, ◌<◌, ◌≤◌, Bool, true, false, not, List, [], ◌∷◌, length, get_or, map, All, Contains, Option, Some, None, IsPermutation, IsSorted, refl, sym, ap, subst, ◌∙◌, ◌⊎◌, inl, inr, IfNone, IfSome, ⊎_elim, arith}
-use Rattle.std.specs.Prelude.{if◌then◌else◌}
+use Rattle.std.proofs.Common.{◌≡◌, ◌≢◌, ℕ, zero, suc, ◌+◌, ◌-◌, ◌<◌, ◌≤◌, Bool, true, false, not, List, [], ◌∷◌, length, get_or, map, All, Contains, Option, Some, None, IsPermutation, IsSorted, refl, sym, ap, subst, ◌∙◌, IfNone, IfSome, ⊎_elim, arith}
 use Rattle.std.specs.List.{filter, list_any, zip}
-use Rattle.std.proofs.lemmas.Bool.{true≢false, cases_lt, or_cases, or_left, or_right, and_parts, and_from, not-true}
+use Rattle.std.proofs.lemmas.Bool.{true≢false, cases_lt, and_parts, and_from, not-true}
 use Rattle.std.proofs.lemmas.List.{get_or-map, get_or_default, length-map}
 use Rattle.std.proofs.lemmas.List.Elements.{Contains-get_or}
 use Rattle.std.proofs.lemmas.List.Sorted.{Contains-permutation, All-permutation, all_adjacent_more}
@@ -15,7 +14,7 @@ use Rattle.cd_cell.specs.Levels.{info_of_face, rep_of_face}
 use Rattle.cd_cell.specs.CellFaults.{no_info}
 use Rattle.cd_cell.specs.Equality.{same_hash, same_face, same_hash-Decides, same_face-Decides}
 use Rattle.cd_cell.specs.Bags.{no_face, face_at}
-use Rattle.cd_cell.proofs.Subtrees.{Contains-first, Contains-later, Contains-cases, Contains-nil, Contains-map, Contains-mapped}
+use Rattle.cd_cell.proofs.Subtrees.{Contains-nil, Contains-map, Contains-mapped}
 use Rattle.cd_cell.specs.Clashes.{least_hash, HashedFace, is_clash, clash_among, with_rep, clash_of}
 use Rattle.cd_cell.specs.ClashSearch.{NumberedHash, numbered_from, Agree, AllAgree, no_numbered, numbered_at, IsFirstClash}
 use Rattle.cd_cell.proofs.ListTests.{Contains-filter, filter-Contains, list_any-Contains, Contains-list_any, none-left}

@@ -1,14 +1,13 @@
 -- Laws of the joined tree of two states.
-use Rattle.std.proofs.Common.{◌≡◌, ℕ, zero, suc, ◌+◌, ◌<◌, ◌≤◌, max, false, [], ◌∷◌, ◌++◌, length, Contains, bit_or, refl, ap, ap₂, sym, ◌∙◌, subst, ⊎_elim, List, Some, None, arith}
+use Rattle.std.proofs.Common.{◌≡◌, ℕ, zero, suc, ◌+◌, ◌<◌, ◌≤◌, max, false, [], ◌∷◌, bit_or, refl, ap, ap₂, sym, ◌∙◌, subst, ⊎_elim, List, arith}
 use Rattle.cd_base.specs.declared.hash.Hash256.{Hash256}
 use Rattle.cd_cell.specs.declared.info.ChildInfo.{ChildInfo}
 use Rattle.cd_cell.specs.Masks.{is_significant}
 use Rattle.cd_cell.specs.Infos.{info_depth}
 use Rattle.cd_cell.specs.FaceView.{FaceView}
 use Rattle.cd_cell.specs.Levels.{mask_of_face, plain_depth, depth_of_face}
-use Rattle.cd_cell.specs.Fit.{IsFaceFit}
 use Rattle.cd_cell.specs.GoodFace.{IsGoodFace}
-use Rattle.cd_cell.specs.Tree.{Tree, subtrees, children, info_of, face_of, mask_of, height_of, depth_at, IsWellFormed}
+use Rattle.cd_cell.specs.Tree.{Tree, subtrees, info_of, face_of, mask_of, height_of, depth_at, IsWellFormed}
 use Rattle.cd_cell.specs.Listings.{old_cells}
 use Rattle.cd_cell.specs.Joined.{joined_tree, joined_face}
 use Rattle.cd_cell.proofs.Subtrees.{Contains-cases, Contains-nil, IsWellFormed-from}

@@ -15,6 +15,7 @@ pub mod UpdateExamples
 pub mod Showing
 pub mod Grafting
 pub mod AppliedUpdates
+pub mod OwnCells
 pub mod NewCells
 pub mod Wanted
 pub mod DataBits

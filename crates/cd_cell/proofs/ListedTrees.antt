@@ -1,5 +1,5 @@
 -- Laws of listed cells: the list of some trees' cells is a valid one, and it stands for those trees.
-use Rattle.std.proofs.Common.{◌≡◌, ℕ, zero, suc, ◌<◌, ◌≤◌, List, [], ◌∷◌, ◌++◌, length, get_or, take, drop, map, find, Some, None, Option, Contains, All, AllPairs, Less, Bool, true, false, true≢false, ◌||◌, cond, refl, ap, ap₂, sym, ◌∙◌, subst, inl, inr, ⊎_elim, ◌⊎◌, get_or-take, arith}
+use Rattle.std.proofs.Common.{◌≡◌, ℕ, zero, suc, ◌<◌, ◌≤◌, List, [], ◌∷◌, ◌++◌, length, get_or, take, drop, map, find, Some, Contains, All, AllPairs, Less, Bool, true, false, cond, refl, ap, ap₂, sym, ◌∙◌, subst, inl, inr, ⊎_elim, ◌⊎◌, get_or-take, arith}
 use Rattle.std.specs.List.{list_any}
 use Rattle.std.specs.Option.{unwrap_or}
 use Rattle.std.specs.Ordering.{nat_cmp, ordering_then}
@@ -16,11 +16,12 @@ use Rattle.cd_cell.specs.Levels.{rep_of_face, height_of_face}
 use Rattle.cd_cell.specs.Tree.{Tree, cell, Trees, no_trees, tree_and, trees_of, list_of, children, subtrees, info_of, infos_of, face_of, mask_of, rep_of, height_of, IsWellFormed}
 use Rattle.cd_cell.specs.Unfolding.{no_tree}
 use Rattle.cd_cell.specs.Equality.{same_info, same_info-Decides}
+use Rattle.cd_cell.specs.Steady.{IsSteady}
 use Rattle.cd_cell.specs.GoodFace.{IsGoodFace}
 use Rattle.cd_cell.specs.Export.{hash_cmp, export_cmp, distinct_cells, IsClashFree}
-use Rattle.cd_cell.specs.Listings.{no_cell, listed_at, listing_cmp, new_cell_of, info_of_new, is_named, IsValid, old_cells, known_infos, Fits, tree_with, listed_trees, tree_of}
+use Rattle.cd_cell.specs.Listings.{no_cell, listed_at, listing_cmp, new_cell_of, info_of_new, is_named, IsValid, old_cells, known_infos, Fits, IsOldOrListed, tree_with, listed_trees, tree_of}
 use Rattle.cd_cell.proofs.Subtrees.{Contains-first, Contains-later, Contains-cases, Contains-nil, Contains-mapped, info_of-face_of, kids-face_of, IsGoodFace-face_of, well_formed-subtree, subtree-itself, child-is-subtree, subtrees-subtree, subtree-parent}
-use Rattle.cd_cell.proofs.Heights.{height_of-child}
+use Rattle.cd_cell.proofs.Heights.{height_of-child, IsSteady-infos_of}
 use Rattle.cd_cell.proofs.Distinct.{before-rising, one_place-rising}
 use Rattle.cd_cell.proofs.ExportOrder.{export_cmp-total, export_cmp-higher, same_rep, AreDistinct-distinct_cells, Contains-distinct_cells, distinct_cells-later}
 
@@ -34,6 +35,10 @@ Contains-dropped xs zero j d from below = Contains-get_or xs j d below
 Contains-dropped [] (suc n) j d from below = absurd (omega arith)
 Contains-dropped (x ∷ xs) (suc n) zero d from below = absurd (omega arith)
 Contains-dropped (x ∷ xs) (suc n) (suc j) d from below = Contains-dropped xs n j d (omega arith) (omega arith)
+
+-- what is shown of a well-formed cell's children is steady
+IsSteady-kids : (H : List ℕ → Hash256) (t : Tree) → IsWellFormed H t → All IsSteady (face_of H t).kids
+IsSteady-kids H (cell exotic bits ts) good = IsSteady-infos_of H ts good.3
 
 -- the only element that passes a test is found
 find-only : {A : Type 0} (p : A → Bool) (xs : List A) (x : A) → Contains xs x → p x ≡ true → ((y : A) → Contains xs y → p y ≡ true → y ≡ x) → find p xs ≡ Some x
@@ -109,6 +114,11 @@ module _ (H : List ℕ → Hash256) where
     IsValid-listed well plain up one reached =
         record {
           good = λ k in'. subst (λ n. IsGoodFace n.face) (sym (listed-at k (in-trees k in'))) (IsGoodFace-face_of H (get_or cs k no_tree) (well-at k (in-trees k in')));
+          masks =
+              λ k d in'.
+              let tree = get_or cs k no_tree in
+              subst (λ n. All (λ i. i.mask ≤ 7) n.face.kids) (sym (get_or-map (new_cell_of H) cs k no_tree d (in-trees k in')))
+              (λ p e in-kids. (IsSteady-kids H tree (well-at k (in-trees k in')) p e in-kids).small);
           hashed =
               λ k in'.
               subst (λ n. n.hash ≡ rep_of_face H n.face) (sym (listed-at k (in-trees k in'))) (rep_of-face_of (get_or cs k no_tree));
@@ -243,6 +253,9 @@ module _ (H : List ℕ → Hash256) where
         inl
         (λ parent. inr (parent.0, Contains-distinct_cells H t clear parent.0 parent.1, parent.2))
         (subtree-parent t c (all-subtrees c in')))
+
+    pub all_cells-listed : (s : Tree) → Contains (subtrees t) s → IsOldOrListed H (map (new_cell_of H) (distinct_cells H t)) [] s
+    all_cells-listed s in' = inr (new_cell_of H s, Contains-mapped (new_cell_of H) all_cells s (Contains-distinct_cells H t clear s in'), refl)
 
     all-behind : AreBehind [] all_cells
     all-behind k c in' child =

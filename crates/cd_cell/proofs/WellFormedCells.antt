@@ -1,5 +1,5 @@
 -- A cell whose children are well-formed is well-formed exactly where its face has no fault.
-use Rattle.std.proofs.Common.{◌≡◌, ◌↔◌, ◌∙◌, ℕ, ◌≤◌, true, List, length, Some, None, Result, Ok, Err, IsOk, IsErr, sym, subst, ap, suc, refl, arith}
+use Rattle.std.proofs.Common.{◌≡◌, ◌↔◌, ◌∙◌, ℕ, ◌≤◌, true, List, length, Some, None, Result, Ok, Err, IsOk, IsErr, sym, subst, ap, refl, arith}
 use Rattle.std.proofs.lemmas.Bool.{true≢false}
 use Rattle.std.specs.List.{All, AllByRecursion}
 use Rattle.std.proofs.lemmas.List.Elements.{recursion_from_All}
@@ -9,7 +9,7 @@ use Rattle.cd_cell.specs.declared.kind.Kind.{Kind}
 use Rattle.cd_cell.specs.FaceView.{FaceView}
 use Rattle.cd_cell.specs.CellFaults.{face_fault}
 use Rattle.cd_cell.specs.Fit.{IsFaceFit}
-use Rattle.cd_cell.specs.Tree.{Tree, cell, Trees, no_trees, tree_and, list_of, children, face_of, infos_of, IsWellFormed, AreWellFormed}
+use Rattle.cd_cell.specs.Tree.{Tree, cell, Trees, no_trees, tree_and, list_of, children, face_of, IsWellFormed, AreWellFormed}
 use Rattle.cd_cell.proofs.Subtrees.{length-infos_of}
 use Rattle.cd_cell.proofs.FitLemmas.{face_fault-fit, fit_from_no_fault}
 

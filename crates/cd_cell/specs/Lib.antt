@@ -19,6 +19,7 @@ pub mod PreparedView
 pub mod Listings
 pub mod Joined
 pub mod Updates
+pub mod Places
 pub mod StoredText
 pub mod Clashes
 pub mod ClashSearch

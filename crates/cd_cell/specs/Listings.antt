@@ -1,5 +1,5 @@
 -- Trusted: new cells in the order of an export, and the prepared values that list them.
-use Rattle.std.specs.Prelude.{◌≡◌, ℕ, ◌<◌, ◌≤◌, IsTrue, Bool, ◌||◌, List, [], ◌∷◌, ◌++◌, length, map, take, find, slice_index_or, Contains, All, AllPairs, unwrap_or}
+use Rattle.std.specs.Prelude.{◌≡◌, ◌⊎◌, ℕ, ◌<◌, ◌≤◌, IsTrue, Bool, ◌||◌, List, [], ◌∷◌, ◌++◌, length, map, take, find, slice_index_or, Contains, All, AllPairs, unwrap_or}
 use Rattle.std.specs.List.{list_any, flat_map}
 use Rattle.std.specs.Ordering.{nat_cmp, ordering_then}
 use Rattle.std.specs.declared.cmp.Ordering.{Ordering}
@@ -48,6 +48,7 @@ module _ (H : List ℕ → Hash256) where
   -- listed cells.
   pub record IsValid (root : ChildInfo) (cells : List NewCell) : Type 0 where
     pub good : (k : ℕ) → k < length cells → IsGoodFace (listed_at cells k).face
+    pub masks : All (λ c. All (λ k. k.mask ≤ 7) c.face.kids) cells
     pub hashed : (k : ℕ) → k < length cells → (listed_at cells k).hash ≡ rep_of_face H (listed_at cells k).face
     pub ordered : AllPairs (λ a b. listing_cmp a b ≡ Less) cells
     pub distinct : (i j : ℕ) → i < length cells → j < length cells → (listed_at cells i).hash ≡ (listed_at cells j).hash → i ≡ j
@@ -65,6 +66,10 @@ module _ (H : List ℕ → Hash256) where
   pub record Fits (root : ChildInfo) (cells : List NewCell) (olds : List Tree) : Type 0 where
     pub top : Contains (known_infos cells olds) root
     pub kids : All (λ c. All (Contains (known_infos cells olds)) c.face.kids) cells
+
+  -- a cell of an old tree, or one whose face is listed
+  abbrev pub IsOldOrListed : List NewCell → List Tree → Tree → Type 0
+  IsOldOrListed cells olds s = Contains (old_cells olds) s ⊎ ((c : NewCell) × Contains cells c × (c.face ≡ face_of H s))
 
   -- the first of some cells that shows this
   abbrev pub tree_with : List Tree → ChildInfo → Tree

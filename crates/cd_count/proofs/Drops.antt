@@ -24,10 +24,10 @@ use Rattle.cd_nodes.proofs.Lists.{option_cases, take_all_of}
 use Rattle.cd_nodes.proofs.Held.{held_in, held_of}
 use Rattle.cd_nodes.proofs.Counts.{count-grown, clash_free-few, held_at-kept}
 use Rattle.cd_nodes.proofs.Records.{count-held, count-not_held}
-use Rattle.cd_nodes.proofs.Worklists.{underway-begun, underway-next, underway-ended}
+use Rattle.cd_nodes.proofs.Worklists.{underway-begun, underway-next, underway-ended, underway-few}
 use Rattle.cd_world.specs.World.{Block, World}
 use Rattle.cd_count.specs.declared.rows.Row.{Row}
-use Rattle.cd_count.specs.Changes.{states, row_in, rep_bytes, cell_graph, AreTogether, AreCounted, AreAdded}
+use Rattle.cd_count.specs.Changes.{states, row_in, rep_bytes, cell_graph, AreTogether, AreCounted, AreAdded, AreDeadCells}
 use Rattle.cd_count.specs.PlanRows.{row_of, rows_of}
 use Rattle.cd_count.specs.PlanSteps.{RowMap, first_row, fixed_part, row_at, count_of_row, count_at, fixed_at, left_in, kid_bytes, AreTaken}
 use Rattle.cd_count.specs.PlanWorlds.{record_of_cell, IsReadable, IsDropped}
@@ -277,6 +277,13 @@ module _ (H : List ℕ → Hash256) (contents : Contents) (old grown left : Worl
               (ap (take_all bytes_eq (left_in S rows dead)) (sym kids) ∙ sym taken.left)
               (underway-next G (is_graph H) (states grown.blocks) free_grown (states left.blocks) (states gone) went (left_in S rows dead) next so.work node.0 within_nodes node.1);
         }
+
+  -- no more are dead so far than in the end
+  pub going-few : (rows : RowMap) (dead : List Hash256) (next : ℕ) → IsGoing rows dead next → (all : List Tree) → AreDeadCells H grown.blocks gone all → length dead ≤ length all
+  going-few rows dead next so all are =
+      let n : length so.work.nodes ≡ length dead = sym (length-map (rep_bytes H) so.work.nodes) ∙ ap length so.work.named ∙ length-map hash_bytes dead in
+      let m = underway-few G (is_graph H) (states grown.blocks) free_grown (states left.blocks) (states gone) went (left_in S rows dead) next so.work all are in
+      omega arith
 
   pub going-ended : (rows : RowMap) (dead : List Hash256) (next : ℕ) → IsGoing rows dead next → length dead ≤ next → IsDropped H old grown come gone news rows dead
   going-ended rows dead next so over =

@@ -1,4 +1,4 @@
-ghost use Rattle.std.specs.Prelude.{◌≡◌, ℕ, ◌+◌, ◌*◌, ◌≤◌, ◌++◌, List, [], map, length, IfSome, IfOk, OnOk};
+ghost use Rattle.std.specs.Prelude.{◌≡◌, ℕ, ◌+◌, ◌*◌, ◌≤◌, ◌++◌, List, [], map, length, IfSome, IfOk, IfErr, OnOk};
 ghost use Rattle.cd_base.specs.declared.hash.Hash256.{Hash256};
 ghost use Rattle.cd_cell.specs.Tree.{Tree};
 ghost use Rattle.cd_cell.specs.Export.{AreClashFree};
@@ -13,7 +13,7 @@ ghost use Rattle.cd_cell.specs.Infos.{rep_of_info};
 ghost use Rattle.cd_record.specs.declared.limits.TheConstants.{GREATEST_COUNT};
 ghost use Rattle.cd_world.specs.Told as told;
 ghost use Rattle.cd_count.specs.Bringing.{unheld, IsBrought};
-ghost use Rattle.cd_count.specs.Clashes.{RefusesClash, RefusesFull};
+ghost use Rattle.cd_count.specs.Clashes.{RefusesClash, RefusesFull, IsOutside};
 ghost use Rattle.cd_world.specs.Told.{ToldWorld, shown};
 ghost use Rattle.std.specs.List.{IsDistinct, AllByRecursion};
 ghost use Rattle.std.specs.Option.{option_to_list};
@@ -26,7 +26,7 @@ ghost use Rattle.cd_keeper.specs.NoKeyTwice.{same_key};
 ghost use Rattle.cd_keeper.specs.Shown.{entries_of, hash_bytes, desc_bytes};
 ghost use Rattle.cd_nodes.specs.Plans as plans;
 ghost use Rattle.cd_record.specs.RecordText.{record_text};
-ghost use Rattle.cd_count.specs.Changes.{states, rep_bytes, AreTogether, AreCounted, AreAdded, IsCellBatch};
+ghost use Rattle.cd_count.specs.Changes.{states, rep_bytes, AreTogether, AreCounted, AreAdded, AreDeadCells, IsCellBatch};
 ghost use Rattle.cd_count.specs.PlanRows.{row_of, rows_of, IsRowFit, AreRowsFit, descr_puts};
 
 use crate::adding::{add_rows, check_limit, clash_of, list_cells};
@@ -210,7 +210,7 @@ pub fn plan_add<K: Keeper, H: Hash32>(
 
 /// The plan's counts once blocks with these roots go, one for each time that a root stands here. A cell whose count
 /// falls to nothing takes one reference from each of its child places, and goes. The plan is empty, or one that
-/// `plan_add` gave. Reads at most `5k + r` records for r roots and k cells that go, and none twice.
+/// `plan_add` gave. Whatever it answers, it reads at most `4k + r` records for r roots and k cells that go.
 pub fn plan_drop<K: Keeper>(
     alloc: Global,
     keeper: &mut K,
@@ -221,10 +221,16 @@ pub fn plan_drop<K: Keeper>(
         (H : List ℕ → Hash256) (old : ToldWorld) (grown left : World) (come gone : List Block) (news : List Tree)
         → AreSoundContents H old contents → AreAdded H (shown old) grown come news plan
         → AreTogether H left.blocks gone grown.blocks → map (rep_bytes H) (states gone) ≡ map hash_bytes roots.now
-        → (dead : List Tree) × AreCounted H (shown old) grown left come gone news dead after
-        × (K.reads keeper.new ≤ K.reads keeper.old + (length roots.now + 4 * length dead)))) }
+        → (dead : List Tree) × AreCounted H (shown old) grown left come gone news dead after)) }
+    ensures reads { IfSome (K.held keeper.old) (λ contents.
+        (H : List ℕ → Hash256) (old : ToldWorld) (grown left : World) (come gone : List Block) (news dead : List Tree)
+        → AreSoundContents H old contents → AreAdded H (shown old) grown come news plan
+        → AreTogether H left.blocks gone grown.blocks → map (rep_bytes H) (states gone) ≡ map hash_bytes roots.now
+        → AreDeadCells H grown.blocks gone dead
+        → K.reads keeper.new ≤ K.reads keeper.old + (4 * length dead + length roots.now)) }
     ensures keeps { KeepsHeld K.held K.trail K.batches keeper.old keeper.new }
     ensures cause { HasCountCause (K.faults keeper.old) (K.faults keeper.new) result }
+    ensures outside { IfErr result IsOutside }
 {
     let mut rows = plan.rows;
     let _dead = drop_roots(alloc, &mut rows, keeper, roots)?;
@@ -246,10 +252,15 @@ fn drop_roots<K: Keeper>(
         → AreTogether H left.blocks gone grown.blocks → map (rep_bytes H) (states gone) ≡ map hash_bytes roots.now
         → IsDropped H old grown come gone news rows.new dead.items)) }
     ensures keeps { KeepsHeld K.held K.trail K.batches keeper.old keeper.new }
-    ensures reads { IfOk result (λ dead.
-        K.reads keeper.new ≤ K.reads keeper.old + (length roots.now + 4 * length dead.items)) }
+    ensures reads { IfSome (K.held keeper.old) (λ contents.
+        (H : List ℕ → Hash256) (old grown left : World) (come gone : List Block) (news dead : List Tree)
+        → IsReadable H old contents → AreAdded H old grown come news (rows_of rows.old.entries)
+        → AreTogether H left.blocks gone grown.blocks → map (rep_bytes H) (states gone) ≡ map hash_bytes roots.now
+        → AreDeadCells H grown.blocks gone dead
+        → K.reads keeper.new ≤ K.reads keeper.old + (4 * length dead + length roots.now)) }
     ensures fit { OnOk result (AreRowsFit (rows_of rows.old.entries) → AreRowsFit (rows_of rows.new.entries)) }
     ensures cause { HasCountCause (K.faults keeper.old) (K.faults keeper.new) result }
+    ensures outside { IfErr result IsOutside }
 {
     let mut dead = Vec::new(alloc);
     take_references(rows, keeper, &mut dead, roots)?;

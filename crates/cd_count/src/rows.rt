@@ -72,6 +72,7 @@ pub fn take_reference<K: Keeper>(
     ensures fit { OnOk result (AreRowsFit (rows_of rows.old.entries) → AreRowsFit (rows_of rows.new.entries)) }
     ensures reads { K.reads keeper.new ≤ K.reads keeper.old + 1 }
     ensures cause { HasCountCause (K.faults keeper.old) (K.faults keeper.new) result }
+    ensures outside { IfErr result IsOutside }
 {
     if let Some(row) = rows.get_mut(hash) {
         return Ok(lower(row, dead, hash)?);
@@ -99,6 +100,7 @@ pub fn take_references<K: Keeper>(
     ensures fit { OnOk result (AreRowsFit (rows_of rows.old.entries) → AreRowsFit (rows_of rows.new.entries)) }
     ensures reads { K.reads keeper.new ≤ K.reads keeper.old + length hashes.now }
     ensures cause { HasCountCause (K.faults keeper.old) (K.faults keeper.new) result }
+    ensures outside { IfErr result IsOutside }
 {
     for hash in hashes {
         take_reference(rows, keeper, dead, hash)?;
@@ -121,6 +123,7 @@ pub fn take_kids<K: Keeper>(
     ensures fit { OnOk result (AreRowsFit (rows_of rows.old.entries) → AreRowsFit (rows_of rows.new.entries)) }
     ensures reads { K.reads keeper.new ≤ K.reads keeper.old + 4 }
     ensures cause { HasCountCause (K.faults keeper.old) (K.faults keeper.new) result }
+    ensures outside { IfErr result IsOutside }
 {
     let Some(row) = rows.get(hash) else {
         return Ok(());

@@ -137,6 +137,7 @@ module _ (H : List ℕ → Hash256) where
   unfolding plain_depth
   empty_is_valid = record {
     good = at_first (λ k. IsGoodFace (let c = listed_at its_cells k in c.face)) empty_is_good;
+    masks = All-from_recursion (λ (c : NewCell). All (λ i. i.mask ≤ 7) (let f = c.face in f.kids)) its_cells (All-from_recursion (λ i. i.mask ≤ 7) [] tt, tt);
     hashed = at_first (λ k. (let c = listed_at its_cells k in c.hash) ≡ rep_of_face H (let c = listed_at its_cells k in c.face)) refl;
     ordered = λ i j d low below. let never : ⊥ = omega arith in absurd never;
     distinct = λ i j low below _. let is : i ≡ j = omega arith in is;

@@ -68,7 +68,7 @@ module _ {K X : Type 0} {R : K → K → Ordering} (o : IsTotalOrder R) where
   put_first true q k v es g e n = cc (ap (λ b. cond b (Some v) g) e, ap (λ r. option_or r (cond (eq_by_cmp R q k) (Some v) g)) (n refl), ap (λ r. option_or r g) (ap (λ b. cond b (Some v) (finite.find R q es)) e))
   put_first false q k v es g e n = ap₂ option_or (sym (ap (λ b. cond b (Some v) (finite.find R q es)) e)) (ap (λ b. cond b (Some v) g) e)
 
-  get-put_all : (m : finite.FinMap R X) (es : List (K × X)) (q : K) → HasNoKeyTwice R es → finite.get (put_all m es) q ≡ option_or (finite.find R q es) (finite.get m q)
+  pub get-put_all : (m : finite.FinMap R X) (es : List (K × X)) (q : K) → HasNoKeyTwice R es → finite.get (put_all m es) q ≡ option_or (finite.find R q es) (finite.get m q)
   get-put_all m [] q a = refl
   get-put_all m (e ∷ es) q a =
       get-put_all (finite.insert m e.0 e.1) es q a.1
@@ -80,7 +80,7 @@ module _ {K X : Type 0} {R : K → K → Ordering} (o : IsTotalOrder R) where
   cond_or true false g = refl
   cond_or false b g = refl
 
-  get-drop_all : (m : finite.FinMap R X) (ks : List K) (q : K) → finite.get (drop_all m ks) q ≡ cond (list_any (eq_by_cmp R q) ks) None (finite.get m q)
+  pub get-drop_all : (m : finite.FinMap R X) (ks : List K) (q : K) → finite.get (drop_all m ks) q ≡ cond (list_any (eq_by_cmp R q) ks) None (finite.get m q)
   get-drop_all m [] q = refl
   get-drop_all m (k ∷ ks) q =
       get-drop_all (finite.remove m k) ks q

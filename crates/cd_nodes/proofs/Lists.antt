@@ -1,5 +1,7 @@
 -- Elements of lists that are made of lists, and elements that are counted.
-use Rattle.std.proofs.Common.{◌≡◌, ◌⊎◌, inl, inr, ℕ, zero, suc, ◌≤◌, List, [], ◌∷◌, ◌++◌, length, take, Bool, true, false, cond, Contains, flat_map, refl, ap, ◌∙◌, sym, subst, arith, count_by, Option, Some, None}
+use Rattle.std.proofs.Common.{◌≡◌, ◌⊎◌, inl, inr, ℕ, zero, suc, ◌+◌, ◌≤◌, List, [], ◌∷◌, ◌++◌, length, take, drop, map, Bool, true, false, true≢false, cond, Contains, flat_map, sum_by, refl, ap, ◌∙◌, sym, subst, arith, count_by, Option, Some, None}
+use Rattle.std.specs.List.{IsDistinct, AllByRecursion}
+use Rattle.std.proofs.lemmas.List.{take-append-drop}
 use Rattle.std.proofs.lemmas.List.Elements.{Contains-append_left, Contains-append_right, Contains-append_cases}
 use Rattle.std.proofs.lemmas.List.Sums.{sum_by-cons}
 use Rattle.cd_cell.proofs.Subtrees.{Contains-first, Contains-later, Contains-cases, Contains-nil}
@@ -64,3 +66,64 @@ module _ {X : Type 0} (p : X → Bool) where
             let r = count_by_has ys (omega arith) in
             (r.0, Contains-later y ys r.0 r.1, r.2)
       ] refl
+
+-- ---- elements that are all among others
+
+module _ {X : Type 0} where
+  -- a list without one of its elements
+  record Without (ys : List X) (x : X) : Type 0 where
+    rest : List X
+    shorter : length ys ≡ length rest + 1
+    sums : (f : X → ℕ) → sum_by f ys ≡ f x + sum_by f rest
+    cover : (y : X) → Contains ys y → (x ≡ y) ⊎ Contains rest y
+
+  without : (ys : List X) (x : X) → Contains ys x → Without ys x
+  without [] x h = absurd (Contains-nil x h)
+  without (y ∷ ys) x h = elim (Contains-cases y ys x h) [
+    | inl e ↦ record {
+      rest = ys;
+      shorter = omega arith;
+      sums = λ f. sum_by-cons f y ys ∙ ap (λ v. f v + sum_by f ys) e;
+      cover = λ z g. elim (Contains-cases y ys z g) [ inl same ↦ inl (sym e ∙ same) | inr later ↦ inr later ];
+    }
+    | inr l ↦
+        let w = without ys x l in
+        record {
+          rest = y ∷ w.rest;
+          shorter = let n = w.shorter in omega arith;
+          sums = λ f. let a = sum_by-cons f y ys in let b = sum_by-cons f y w.rest in let c = w.sums f in omega arith;
+          cover = λ z g. elim (Contains-cases y ys z g) [
+            | inl same ↦ inr (subst (Contains (y ∷ w.rest)) same (Contains-first y w.rest))
+            | inr later ↦ elim (w.cover z later) [ inl same ↦ inl same | inr there ↦ inr (Contains-later y w.rest z there) ]
+          ];
+        }
+  ]
+
+  -- the first of some elements are among them
+  pub Contains-taken : (n : ℕ) (xs : List X) (x : X) → Contains (take n xs) x → Contains xs x
+  Contains-taken n xs x h = subst (λ zs. Contains zs x) (take-append-drop n xs) (Contains-append_left (take n xs) (drop n xs) x h)
+
+  module _ {K : Type 0} (same : K → K → Bool) (itself : (k : K) → same k k ≡ true) (key : X → K) where
+    unlike : (k : K) (xs : List X) (x : X) → AllByRecursion (λ q. same k q ≡ false) (map key xs) → Contains xs x → same k (key x) ≡ false
+    unlike k [] x apart h = absurd (Contains-nil x h)
+    unlike k (y ∷ ys) x apart h = elim (Contains-cases y ys x h) [
+      | inl e ↦ subst (λ z. same k (key z) ≡ false) e apart.0
+      | inr later ↦ unlike k ys x apart.1 later
+    ]
+
+    -- where no two of some elements have one key and the first of them are among others, these are as many at least, and
+    -- no sum over them is less
+    pub taken-within : (n : ℕ) (xs ys : List X) → IsDistinct same (map key xs) → ((x : X) → Contains (take n xs) x → Contains ys x)
+        → (length (take n xs) ≤ length ys) × ((f : X → ℕ) → sum_by f (take n xs) ≤ sum_by f ys)
+    unfolding IsDistinct
+    taken-within zero xs ys distinct inside = (omega arith, λ f. omega arith)
+    taken-within (suc n) [] ys distinct inside = (omega arith, λ f. omega arith)
+    taken-within (suc n) (x ∷ xs) ys distinct inside =
+        let w = without ys x (inside x (Contains-first x (take n xs))) in
+        let rest = taken-within n xs w.rest distinct.1 (λ y h. elim (w.cover y (inside y (Contains-later x (take n xs) y h))) [
+          | inl e ↦ absurd (true≢false (sym (itself (key x)) ∙ ap (λ z. same (key x) (key z)) e ∙ unlike (key x) xs y distinct.0 (Contains-taken n xs y h)))
+          | inr there ↦ there
+        ]) in (
+          let a = rest.0 in let b = w.shorter in omega arith,
+          λ f. let a = rest.1 f in let b = w.sums f in let c = sum_by-cons f x (take n xs) in omega arith,
+        )

@@ -10,7 +10,7 @@ use Rattle.cd_cell.proofs.ListTests.{true_or_false}
 use Rattle.cd_cell.proofs.Subtrees.{Contains-first, Contains-later, Contains-nil}
 use Rattle.cd_nodes.specs.Graphs.{Graph, IsGraph, occurrences, references, reached, count, AreClashFree, AreTogether, AreDead}
 use Rattle.cd_nodes.specs.Worklists.{Left, take_one, take_all, AreEmptied, IsOneLess, IsUnderWay}
-use Rattle.cd_nodes.proofs.Lists.{take_all_of, take-prefix}
+use Rattle.cd_nodes.proofs.Lists.{take_all_of, take-prefix, Contains-taken, taken-within}
 use Rattle.cd_nodes.proofs.Held.{same_by_order}
 use Rattle.cd_nodes.proofs.Counts.{reached-child, reached-root, references-within}
 use Rattle.cd_nodes.proofs.Records.{count-held}
@@ -183,6 +183,20 @@ module _ {N K : Type 0} (G : Graph N K) (laws : IsGraph G) where
         ]
 
     module _ (few gone : List N) (sum : AreTogether G few gone roots) where
+      -- a node whose last reference is a root's that goes, or one of those dead first, is dead in the end, where these are
+      within_all : (counts : K → ℕ) (next : ℕ) (nodes : List N) → AreEmptied G roots counts nodes
+          → ((q : K) → counts q + (occurrences G gone q + references G (take next nodes) q) ≡ count G roots q)
+          → (all : List N) → AreDead G roots gone all → ((d : N) → Contains (take next nodes) d → Contains all d) → (d : N) → Contains nodes d → Contains all d
+      within_all counts next nodes emptied is all dead inside d h =
+          let q = G.key d in
+          let a = is q in
+          let z = emptied.unnamed d h in
+          let b = (taken-within G.same (λ k. (laws.decides k k).1 refl) G.key next nodes all emptied.distinct inside).1 (λ x. occurrences G (G.children x) q) in
+          let c = references-within G laws few gone roots sum clear all dead.distinct dead.held_now q in
+          let t = sum.sums q in
+          let e : count G roots q ≡ occurrences G gone q + references G all q = omega arith in
+          dead.every d (emptied.held_now d h) e
+
       -- first the roots that go
       pub underway-begun : (left : K → ℕ) → ((q : K) → left q ≡ count G roots q)
           → IsUnderWay G roots gone (take_all G.same (record { counts = left; dead = [] }) (map G.key gone)) 0
@@ -192,7 +206,18 @@ module _ {N K : Type 0} (G : Graph N K) (laws : IsGraph G) where
           let r = run gone (record { counts = left; dead = [] }) [] refl first
           (λ k h. reached-root G laws roots k (sum.second k h))
           (λ q. let t = sum.sums q in let i = is q in omega arith) in
-          record { nodes = r.more; named = r.named; emptied = r.emptied; sums = λ q. let a = r.sums q in let i = is q in omega arith }
+          let so = λ (q : K).
+          let a = r.sums q in
+          let i = is q in
+          let e : (take_all G.same (record { counts = left; dead = [] }) (map G.key gone)).counts q + (occurrences G gone q + references G (take 0 r.more) q) ≡ count G roots q = omega arith in e
+          in
+          record {
+            nodes = r.more;
+            named = r.named;
+            emptied = r.emptied;
+            sums = so;
+            within = λ all dead. within_all (take_all G.same (record { counts = left; dead = [] }) (map G.key gone)).counts 0 r.more r.emptied so all dead (λ d h. absurd (Contains-nil d h));
+          }
 
       -- then the child places of the next dead node
       pub underway-next : (s : Left K) (next : ℕ) (so : IsUnderWay G roots gone s next) (d : N) → next < length so.nodes → get_or so.nodes next d ≡ d
@@ -213,15 +238,29 @@ module _ {N K : Type 0} (G : Graph N K) (laws : IsGraph G) where
           let h : occurrences G (G.children d) q ≤ s.counts q = omega arith in h in
           let r = run (G.children d) s so.nodes so.named so.emptied (λ k h. reached-child G laws roots d k (so.emptied.held_now d here) h) room in
           let n : next + 1 ≤ length so.nodes = omega arith in
+          let t = take_all G.same s (map G.key (G.children d)) in
+          let before = take-prefix (next + 1) so.nodes r.more n in
+          let left_now = λ (q : K).
+          let a = r.sums q in let b = so.sums q in let c = one q in
+          let p : references G (take (next + 1) (so.nodes ++ r.more)) q ≡ references G (take (next + 1) so.nodes) q = ap (λ ns. references G ns q) before in
+          let e : t.counts q + (occurrences G gone q + references G (take (next + 1) (so.nodes ++ r.more)) q) ≡ count G roots q = omega arith in e
+          in
           record {
             nodes = so.nodes ++ r.more;
             named = r.named;
             emptied = r.emptied;
-            sums = λ q.
-                let a = r.sums q in let b = so.sums q in let c = one q in
-                let p : references G (take (next + 1) (so.nodes ++ r.more)) q ≡ references G (take (next + 1) so.nodes) q = ap (λ ns. references G ns q) (take-prefix (next + 1) so.nodes r.more n) in
-                omega arith;
+            sums = left_now;
+            within = λ all dead. within_all t.counts (next + 1) (so.nodes ++ r.more) r.emptied left_now all dead
+                (λ x h. so.within all dead x (Contains-taken (next + 1) so.nodes x (subst (λ ns. Contains ns x) before h)));
           }
+
+      -- no more are dead so far than in the end
+      pub underway-few : (s : Left K) (next : ℕ) (so : IsUnderWay G roots gone s next) (all : List N) → AreDead G roots gone all → length so.nodes ≤ length all
+      underway-few s next so all dead =
+          let whole : take (length so.nodes) so.nodes ≡ so.nodes = take_all_of (length so.nodes) so.nodes (omega arith) in
+          subst (λ ns. length ns ≤ length all) whole
+          (taken-within G.same (λ k. (laws.decides k k).1 refl) G.key (length so.nodes) so.nodes all so.emptied.distinct
+          (λ d h. so.within all dead d (subst (λ ns. Contains ns d) whole h))).0
 
       -- at the end the dead are collected
       pub underway-ended : (s : Left K) (next : ℕ) (so : IsUnderWay G roots gone s next) → length so.nodes ≤ next

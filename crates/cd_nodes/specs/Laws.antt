@@ -61,6 +61,12 @@ module _ {N K : Type 0} (G : Graph N K) where
       → (s : Left K) (next : ℕ) (so : IsUnderWay G many gone s next) → length so.nodes ≤ next
       → AreDead G many gone so.nodes
 
+  -- and before it no more than those
+  abbrev pub WorkStaysWithin : Type 0
+  WorkStaysWithin = (few gone many : List N) → AreTogether G few gone many → AreClashFree G many
+      → (s : Left K) (next : ℕ) (so : IsUnderWay G many gone s next) (dead : List N) → AreDead G many gone dead
+      → length so.nodes ≤ length dead
+
   module _ {F X : Type 0} (face : N → F) (text : ℕ → F → X) where
     -- a key has a record exactly where it is held, of its count and face
     abbrev pub RecordsAreCounted : Type 0

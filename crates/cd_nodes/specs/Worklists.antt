@@ -1,7 +1,7 @@
 -- Trusted: references that are taken away one by one, and the keys that lose their last.
 use Rattle.std.specs.Prelude.{◌≡◌, ℕ, ◌+◌, ◌-◌, Bool, false, cond, nat_eq, fold, List, [], ◌∷◌, ◌++◌, map, take, Contains}
 use Rattle.std.specs.List.{IsDistinct}
-use Rattle.cd_nodes.specs.Graphs.{Graph, occurrences, references, reached, count}
+use Rattle.cd_nodes.specs.Graphs.{Graph, occurrences, references, reached, count, AreDead}
 
 -- what is left of the references to each key, and the keys that have none left, those first that came first
 pub record Left (K : Type 0) : Type 0 where
@@ -37,3 +37,5 @@ module _ {N K : Type 0} (G : Graph N K) where
     pub named : map G.key nodes ≡ s.dead
     pub emptied : AreEmptied roots s.counts nodes
     pub sums : (h : K) → s.counts h + (occurrences G gone h + references G (take next nodes) h) ≡ count G roots h
+    -- each of them is dead in the end
+    pub within : (all : List N) → AreDead G roots gone all → (d : N) → Contains nodes d → Contains all d

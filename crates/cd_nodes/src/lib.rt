@@ -32,6 +32,7 @@ pub fn worklists_collect<N, K>()
     ensures begins { (G : Graph N K) → IsGraph G → law.WorkBegins G }
     ensures goes_on { (G : Graph N K) → IsGraph G → law.WorkGoesOn G }
     ensures ends { (G : Graph N K) → IsGraph G → law.WorkEnds G }
+    ensures within { (G : Graph N K) → IsGraph G → law.WorkStaysWithin G }
 {}
 
 /// Each held node has one record, of its count and face, and no other key has one.

@@ -10,13 +10,11 @@ use Rattle.cd_cell.specs.Levels.{kid_level}
 use Rattle.cd_cell.specs.Tree.{Tree, cell, Trees, no_trees, tree_and, face_of}
 use Rattle.cd_cell.specs.Updates.{is_hidden}
 use Rattle.cd_cell.proofs.Subtrees.{Contains-first, Contains-later, Contains-cases, Contains-nil}
-use Rattle.cd_update.specs.Places.{Place, places, places_of_all}
+use Rattle.cd_cell.specs.Places.{Place, places, places_of_all}
+use Rattle.cd_cell.proofs.OwnCells.{place, place-itself}
 use Rattle.cd_update.specs.Grafts.{grafted_info, grafted_infos, grafted_face}
 
 module _ (H : List ℕ → Hash256) (known : List ChildInfo) where
-  abbrev place : Tree → ℕ → Place
-  place n d = record { tree = n; depth = d }
-
   abbrev pub is_visible : Place → Type 0
   is_visible p = is_hidden p.depth (face_of H p.tree) ≡ false
 
@@ -25,10 +23,6 @@ module _ (H : List ℕ → Hash256) (known : List ChildInfo) where
 
   abbrev pub face_at : Place → FaceView
   face_at p = grafted_face H known p.tree p.depth
-
-  pub place-itself : (n : Tree) (d : ℕ) → Contains (places H n d) (place n d)
-  place-itself (cell exotic bits ns) d =
-      Contains-first (place (cell exotic bits ns) d) (if is_hidden d (face_of H (cell exotic bits ns)) then [] else places_of_all H ns (kid_level (face_of H (cell exotic bits ns)) d))
 
   open-if : (hidden : Bool) (ps : List Place) (q : Place) → Contains (if hidden then [] else ps) q → (hidden ≡ false) × Contains ps q
   open-if true ps q h = absurd (Contains-nil q h)
@@ -43,7 +37,7 @@ module _ (H : List ℕ → Hash256) (known : List ChildInfo) where
   infos-place no_trees d k h = absurd (Contains-nil k h)
   infos-place (tree_and n ns) d k h =
       ⊎_elim
-      (λ same. (place n d, Contains-append_left (places H n d) (places_of_all H ns d) (place n d) (place-itself n d), same))
+      (λ same. (place n d, Contains-append_left (places H n d) (places_of_all H ns d) (place n d) (place-itself H n d), same))
       (λ later.
       let found = infos-place ns d k later in
       (found.0, Contains-append_right (places H n d) (places_of_all H ns d) found.0 found.1, found.2))
@@ -94,7 +88,7 @@ module _ (H : List ℕ → Hash256) (known : List ChildInfo) where
         let inside = open-if hidden rest q later in
         inr
         (⊎_elim {C = HasParent (places H (cell exotic bits ns) d) q}
-        (λ child. (place n d, place-itself n d, inside.0, child))
+        (λ child. (place n d, place-itself H n d, inside.0, child))
         (λ parent. (parent.0, Contains-later (place n d) (if hidden then [] else rest) parent.0 (into-if hidden rest parent.0 inside.0 parent.1), parent.2, parent.3))
         (place-parent_of_all ns (kid_level (face_of H n) d) q inside.1)))
         (Contains-cases (place n d) (if hidden then [] else rest) q in')

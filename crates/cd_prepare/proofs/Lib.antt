@@ -8,5 +8,4 @@ pub mod OwnFaces
 pub mod UpdateLaws
 pub mod MergedFaces
 pub mod SplitFaults
-pub mod GivenCells
 pub mod MergedTrees

@@ -1,5 +1,5 @@
 -- The listed cells of an update over the joined tree of two states stand for the applied tree.
-use Rattle.std.proofs.Common.{◌≡◌, ℕ, suc, ◌<◌, List, [], ◌∷◌, ◌++◌, get_or, drop, map, flat_map, Contains, Less, true, Option, None, Ok, ap, sym, ◌∙◌, subst, inl, inr, ⊎_elim, ◌⊎◌}
+use Rattle.std.proofs.Common.{◌≡◌, ℕ, suc, ◌<◌, List, [], ◌∷◌, ◌++◌, get_or, drop, map, flat_map, Contains, Less, true, Option, None, Ok, refl, ap, sym, ◌∙◌, subst, inl, inr, ⊎_elim, ◌⊎◌}
 use Rattle.std.proofs.lemmas.Bool.{and_from}
 use Rattle.std.proofs.lemmas.List.{get_or_default}
 use Rattle.std.proofs.lemmas.List.Elements.{Contains-get_or, Contains-append_cases, Contains-append_left, Contains-append_right}
@@ -11,7 +11,7 @@ use Rattle.cd_cell.specs.Export.{export_cmp, sorted_distinct, AreDistinct, AreCl
 use Rattle.cd_cell.specs.Joined.{joined_tree}
 use Rattle.cd_cell.specs.Listings.{new_cell_of, old_cells, tree_of}
 use Rattle.cd_cell.specs.Updates.{is_hidden, stands_for, found_in, known_of, half_of, first_foreign, grafted, refusal_of, applied, new_cells}
-use Rattle.cd_cell.proofs.Subtrees.{Contains-first, Contains-cases, subtree-itself, well_formed-subtree, flat_map-listed, same_subtrees}
+use Rattle.cd_cell.proofs.Subtrees.{Contains-first, Contains-cases, subtree-itself, subtrees-cases, well_formed-subtree, flat_map-subtree, flat_map-listed, same_subtrees}
 use Rattle.cd_cell.proofs.Heights.{height_of-child}
 use Rattle.cd_cell.proofs.Distinct.{AreDistinct-sorted_distinct, Contains-distinct, before-rising}
 use Rattle.cd_cell.proofs.ExportOrder.{export_cmp-total, export_cmp-higher, export_cmp-ties}
@@ -21,11 +21,11 @@ use Rattle.cd_cell.proofs.Showing.{subtree-known}
 use Rattle.cd_cell.proofs.AppliedUpdates.{find-Some, ok-from, no_refusal, IsNew-applied}
 use Rattle.cd_cell.proofs.ListedTrees.{tree_of-listed, AreBehind, Contains-dropped}
 use Rattle.cd_update.specs.Hides.{hides_at}
-use Rattle.cd_update.specs.Places.{places}
+use Rattle.cd_cell.specs.Places.{places}
 use Rattle.cd_update.proofs.EachOnceLaws.{Contains-flat_map_cases}
 use Rattle.cd_update.proofs.HalfVisits.{IsUpdateTree}
 use Rattle.cd_prepare.specs.Merged.{listed_if, is_given, merged_cells}
-use Rattle.cd_prepare.proofs.GivenCells.{IsGiven, own-root, own-child, own-subtree}
+use Rattle.cd_cell.proofs.OwnCells.{IsGiven, own-root, own-child, own-subtree, graft-cell}
 use Rattle.cd_prepare.proofs.MergedFaces.{with-cases}
 
 -- two states of mask 0 that join to no more than the greatest depth
@@ -121,6 +121,26 @@ module _ {H : List ℕ → Hash256} {u : Tree} (update : IsUpdateTree H u) (a b 
   root-known =
       subst (λ x. Contains merged x ⊎ Contains (old_cells olds) x) graft
       (⊎_elim (λ in-own. inl (own-merged (grafted H search half 0) in-own)) (given-known (grafted H search half 0)) (own-root H search half 0 none))
+
+  -- a cell below one that was given
+  below-given : (c s : Tree) → IsGiven H search (places H half 0) c → Contains (subtrees c) s → Contains merged s ⊎ Contains (old_cells olds) s
+  below-given c s given below =
+      ⊎_elim
+      (λ joined.
+      ⊎_elim
+      (λ same. inl (subst (Contains merged) (joined.1 ∙ same) (listed-given (joined_tree a b) (joined.0, refl))))
+      (λ state. inr (flat_map-listed olds state.0 s (subst (λ x. Contains (children x) state.0) (sym joined.1) state.1) state.2))
+      (subtrees-cases c s below))
+      (λ old. inr (flat_map-subtree olds c s old below))
+      (given-cell c given)
+
+  -- each cell of the applied tree is listed, or it is a cell of a state
+  pub merged-cell : (s : Tree) → Contains (subtrees g) s → Contains (merged_cells H u a b) s ⊎ Contains (old_cells olds) s
+  merged-cell s h =
+      ⊎_elim
+      (λ in-own. inl (own-merged s in-own))
+      (λ below. below-given below.0 s below.1 below.2)
+      (graft-cell H search half 0 s none (subst (λ x. Contains (subtrees x) s) (sym graft) h))
 
   -- ---- where the states and the listed cells together are free of clashes
 

@@ -157,6 +157,9 @@ module _ (H : List ℕ → Hash256) (faces : List FaceView) where
       IsValid-faces plain shallow =
           record {
             good = λ k in'. let c = cell-at k in' in subst (λ (n : NewCell). IsGoodFace n.face) (sym c.2) (good c.0 c.1);
+            masks = λ k d in'.
+                let c = listed.within (get_or cells k d) (Contains-get_or cells k d in') in
+                subst (λ (n : NewCell). All (λ i. i.mask ≤ 7) n.face.kids) (sym c.2) (λ p e in-kids. (steady c.0 c.1 p e in-kids).small);
             hashed = λ k in'. let c = cell-at k in' in subst (λ (n : NewCell). n.hash ≡ rep_of_face H n.face) (sym c.2) refl;
             ordered = listed.ordered;
             distinct = λ i j in-i in-j hashes.

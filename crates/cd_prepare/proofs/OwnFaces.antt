@@ -29,8 +29,9 @@ use Rattle.cd_cell.proofs.Heights.{clear-bit}
 use Rattle.cd_cell.proofs.AppliedUpdates.{find-Some}
 use Rattle.cd_cell.specs.Clashes.{clash_of}
 use Rattle.cd_cell.proofs.ClashLaws.{clear-clash_of}
+use Rattle.cd_cell.proofs.OwnCells.{place-itself}
 use Rattle.cd_update.specs.EachOnce.{first_of}
-use Rattle.cd_update.specs.Places.{Place, places}
+use Rattle.cd_cell.specs.Places.{Place, places}
 use Rattle.cd_update.specs.Pairing.{IsOldInfo, upto}
 use Rattle.cd_update.specs.Hides.{hides_at, hides}
 use Rattle.cd_update.proofs.OldInfos.{stands-as, known-as}
@@ -44,7 +45,7 @@ use Rattle.cd_cell.specs.declared.new_cell.NewCell.{NewCell}
 use Rattle.cd_cell.specs.Listings.{IsValid}
 use Rattle.cd_prepare.specs.NewCells.{AreListed}
 use Rattle.cd_prepare.proofs.NewLists.{AreClear, HasParent, IsValid-faces}
-use Rattle.cd_prepare.proofs.GraftPlaces.{is_visible, place-itself, kid-place, place-parent}
+use Rattle.cd_prepare.proofs.GraftPlaces.{is_visible, kid-place, place-parent}
 
 -- faces without a clash
 pub clear-faces : (H : List ℕ → Hash256) (faces : List FaceView) → clash_of H faces ≡ None → AreClear H faces
@@ -234,7 +235,7 @@ module _ {H : List ℕ → Hash256} {u : Tree} (update : IsUpdateTree H u) (know
         subst (λ x. ((g : FaceView) × Contains faces g × (info_of_face H g ≡ x)) ⊎ WasHidden x) place.2 (place-shown place.0 place.1)
 
     pub root-shown : ((g : FaceView) × Contains faces g × (info_of_face H g ≡ root)) ⊎ WasHidden root
-    root-shown = place-shown start (place-itself H known half 0)
+    root-shown = place-shown start (place-itself H half 0)
 
     -- the own cells in their order are what a prepared value keeps, below the grafted root
     pub valid-listing : (cells : List NewCell) → AreListed H faces cells → clash_of H faces ≡ None → (r : ChildInfo) (cs : List NewCell) → r ≡ root → cs ≡ cells → IsValid H r cs

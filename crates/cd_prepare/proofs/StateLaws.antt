@@ -10,8 +10,8 @@ use Rattle.cd_cell.specs.Tree.{Tree, info_of, mask_of}
 use Rattle.cd_cell.specs.Unfolding.{no_tree}
 use Rattle.cd_cell.specs.Bags.{bag_cell, root_trees, IsBag}
 use Rattle.cd_cell.specs.Export.{distinct_cells}
-use Rattle.cd_cell.specs.Listings.{new_cell_of, IsValid, Fits, tree_of}
-use Rattle.cd_cell.proofs.ListedTrees.{IsValid-all_cells, Fits-all_cells, tree_of-all_cells}
+use Rattle.cd_cell.specs.Listings.{new_cell_of, IsValid, Fits, IsOldOrListed, tree_of}
+use Rattle.cd_cell.proofs.ListedTrees.{IsValid-all_cells, all_cells-listed, Fits-all_cells, tree_of-all_cells}
 use Rattle.cd_prepare.specs.declared.prepare_fault.PrepareFault.{PrepareFault}
 use Rattle.cd_prepare.specs.declared.prepare_fault.PrepareFault.TheVariants.{Level}
 use Rattle.cd_prepare.specs.States.{state_fault, IsWhole}
@@ -41,6 +41,9 @@ module _ (H : List ℕ → Hash256) (cells : List FaceView) (refs : List (List �
     stands =
         ap₂ (λ i cs. tree_of H i cs []) shown all
         ∙ tree_of-all_cells H t (well_formed-root H cells refs roots bag root in') (clash_free-root H cells refs roots bag root in');
+    known = λ s in-t.
+        subst (λ cs. IsOldOrListed H cs [] s) (sym all)
+        (all_cells-listed H t (well_formed-root H cells refs roots bag root in') (clash_free-root H cells refs roots bag root in') s in-t);
   }
 
   pub IsWhole-prepared : (state : Tree) → root ≡ slice_index roots 0 → 0 < length roots → root_trees cells refs roots ≡ state ∷ [] → IsWhole H state info listed

@@ -229,3 +229,7 @@ module _ (H : List ℕ → Hash256) (own : List Tree) (faces : List FaceView) (a
   listed-new_cells =
       same-rising listing_cmp listing_cmp-total cells (map (new_cell_of H) sorted) (rises-from_AllPairs listing_cmp cells listed.ordered)
       (rises-from_AllPairs listing_cmp (map (new_cell_of H) sorted) ordered-new) into back
+
+  -- each of the trees has its face listed
+  pub own-listed : (s : Tree) → Contains own s → (c : NewCell) × Contains cells c × (c.face ≡ face_of H s)
+  own-listed s h = (new_cell_with H (face_of H s), listed.whole (face_of H s) (are.there s h), refl)

@@ -1,15 +1,15 @@
 -- Trusted: updates applied to an old tree, and what preparing one answers.
-use Rattle.std.specs.Prelude.{◌≡◌, ℕ, List, [], ◌∷◌, map, Option, Ok}
+use Rattle.std.specs.Prelude.{◌≡◌, ℕ, List, [], ◌∷◌, map, Contains, Option, Ok}
 use Rattle.std.specs.Option.{option_or, option_map}
 use Rattle.cd_base.specs.declared.hash.Hash256.{Hash256}
 use Rattle.cd_cell.specs.declared.info.ChildInfo.{ChildInfo}
 use Rattle.cd_cell.specs.declared.new_cell.NewCell.{NewCell}
 use Rattle.cd_cell.specs.FaceView.{FaceView}
 use Rattle.cd_cell.specs.Levels.{stated_hash}
-use Rattle.cd_cell.specs.Tree.{Tree, info_of, face_of}
+use Rattle.cd_cell.specs.Tree.{Tree, subtrees, info_of, face_of}
 use Rattle.cd_cell.specs.Equality.{same_face}
 use Rattle.cd_cell.specs.Export.{export_cmp, sorted_distinct, AreClashFree}
-use Rattle.cd_cell.specs.Listings.{new_cell_of, Fits, tree_of}
+use Rattle.cd_cell.specs.Listings.{new_cell_of, Fits, IsOldOrListed, tree_of}
 use Rattle.cd_cell.specs.Updates.{UpdateRefusal, old_hash, old_depth, old_half, foreign, half_of, refusal_of, applied, new_cells}
 use Rattle.cd_cell.specs.Clashes.{clash_of}
 use Rattle.cd_update.specs.EachOnce.{each_once}
@@ -66,7 +66,8 @@ module _ (H : List ℕ → Hash256) (u t : Tree) where
   update_fault = fault_over new_faces
 
   -- a root and listed cells are those of the update applied to the old tree: they fit over that, and stand for the new
-  -- tree where the old tree and the new cells together are free of clashes
+  -- tree where the old tree and the new cells together are free of clashes; each cell of the new tree is an old one or is
+  -- listed
   pub record IsUpdateApplied (root : ChildInfo) (cells : List NewCell) : Type 0 where
     pub tree : Tree
     pub is_applied : applied H u t ≡ Ok tree
@@ -74,3 +75,4 @@ module _ (H : List ℕ → Hash256) (u t : Tree) where
     pub cells_are : cells ≡ map (new_cell_of H) (sorted_distinct (export_cmp H) (new_cells H u t))
     pub fits : Fits H root cells (t ∷ [])
     pub stands : AreClashFree H (t ∷ new_cells H u t) → tree_of H root cells (t ∷ []) ≡ tree
+    pub known : (s : Tree) → Contains (subtrees tree) s → IsOldOrListed H cells (t ∷ []) s

@@ -8,9 +8,9 @@ use Rattle.cd_cell.specs.declared.new_cell.NewCell.{NewCell}
 use Rattle.cd_cell.specs.FaceView.{FaceView}
 use Rattle.cd_cell.specs.Infos.{info_depth}
 use Rattle.cd_cell.specs.Levels.{info_of_face}
-use Rattle.cd_cell.specs.Tree.{Tree, info_of, face_of, rep_of, mask_of, IsWellFormed}
+use Rattle.cd_cell.specs.Tree.{Tree, subtrees, info_of, face_of, rep_of, mask_of, IsWellFormed}
 use Rattle.cd_cell.specs.Export.{export_cmp, sorted_distinct, AreClashFree}
-use Rattle.cd_cell.specs.Listings.{new_cell_of, old_cells, Fits, tree_of}
+use Rattle.cd_cell.specs.Listings.{new_cell_of, old_cells, Fits, IsOldOrListed, tree_of}
 use Rattle.cd_cell.specs.Joined.{joined_tree, joined_face}
 use Rattle.cd_cell.specs.Updates.{half_of, applied, new_cells}
 use Rattle.cd_update.specs.Hides.{hides}
@@ -82,7 +82,8 @@ module _ (H : List ℕ → Hash256) (u a b : Tree) where
     pub found : (s : Tree) → Contains (old_cells (a ∷ b ∷ [])) s → Contains (wanted_hashes_below H u) (rep_of H s) → beside (wanted_hashes_below H u) faces (rep_of H s) ≡ Some (face_of H s)
 
   -- a root and listed cells are those of the update applied to the joined tree: they fit over the two states, and stand
-  -- for the new tree where the states and the listed cells together are free of clashes
+  -- for the new tree where the states and the listed cells together are free of clashes; each cell of the new tree is one
+  -- of a state or is listed
   pub record IsMergeApplied (root : ChildInfo) (cells : List NewCell) : Type 0 where
     pub tree : Tree
     pub is_applied : applied H u joined ≡ Ok tree
@@ -90,3 +91,4 @@ module _ (H : List ℕ → Hash256) (u a b : Tree) where
     pub cells_are : cells ≡ map (new_cell_of H) (sorted_distinct (export_cmp H) merged_cells)
     pub fits : Fits H root cells (a ∷ b ∷ [])
     pub stands : AreClashFree H (a ∷ b ∷ merged_cells) → tree_of H root cells (a ∷ b ∷ []) ≡ tree
+    pub known : (s : Tree) → Contains (subtrees tree) s → IsOldOrListed H cells (a ∷ b ∷ []) s

@@ -15,7 +15,7 @@ use Rattle.cd_cell.proofs.BagLaws.{face_of-bag, children-bag, enough-bag}
 use Rattle.cd_update.specs.declared.visit.Node.{Node}
 use Rattle.cd_update.specs.declared.visit.Visit.{Visit}
 use Rattle.cd_update.specs.EachOnce.{each_once, first_of, walk_within}
-use Rattle.cd_update.specs.Places.{Place, places, places_of_all}
+use Rattle.cd_cell.specs.Places.{Place, places, places_of_all}
 use Rattle.cd_update.specs.Nodes.{same_node, node, next_nodes, nodes_from}
 use Rattle.cd_update.specs.Visits.{nodes_of, place_of, visited}
 use Rattle.cd_update.proofs.EachOnceLaws.{flat_map-same, each_once-flat_map, first_of-each_once, each_once-front}

@@ -11,7 +11,7 @@ use Rattle.cd_cell.specs.Tree.{Tree}
 use Rattle.cd_cell.specs.Updates.{half_of}
 use Rattle.cd_update.specs.declared.visit.Visit.{Visit}
 use Rattle.cd_update.specs.EachOnce.{first_of}
-use Rattle.cd_update.specs.Places.{Place, places}
+use Rattle.cd_cell.specs.Places.{Place, places}
 use Rattle.cd_update.specs.Visits.{place_of, visited, IsWalked, IsHalf}
 use Rattle.cd_update.specs.Pairing.{beside, misfit_at, misfit_among, wanted_hashes_below}
 use Rattle.cd_update.specs.PairingBelow.{misfit_under}

@@ -20,7 +20,7 @@ use Rattle.cd_cell.proofs.Showing.{matches-Decides}
 use Rattle.cd_cell.proofs.Grafting.{IsKept, AreKept, length-kept, low-whole, mask_of_face-kept, kids-low, IsKept-info, IsFaceFit-kept}
 use Rattle.cd_cell.proofs.AppliedUpdates.{find-Some}
 use Rattle.cd_update.specs.EachOnce.{first_of}
-use Rattle.cd_update.specs.Places.{Place, places, places_of_all}
+use Rattle.cd_cell.specs.Places.{Place, places, places_of_all}
 use Rattle.cd_update.specs.Pairing.{IsOldInfo}
 use Rattle.cd_update.specs.Grafts.{known_for, grafted_info, grafted_infos, grafted_face, foreign_at}
 use Rattle.cd_update.proofs.EachOnceLaws.{first_of-append}

@@ -11,7 +11,7 @@ use Rattle.cd_cell.specs.Unfolding.{no_tree}
 use Rattle.cd_cell.specs.Equality.{same_info, same_info-Decides}
 use Rattle.cd_cell.specs.Updates.{is_hidden, stands_for, some_unless, missing, found_in, grafted, grafted_all, first_foreign, foreign_of_all, own_cells, own_of_all}
 use Rattle.cd_update.specs.EachOnce.{each_once, first_of}
-use Rattle.cd_update.specs.Places.{Place, places, places_of_all}
+use Rattle.cd_cell.specs.Places.{Place, places, places_of_all}
 use Rattle.cd_update.specs.Grafts.{known_for, grafted_info, grafted_infos, own_face_at, foreign_at}
 use Rattle.cd_update.proofs.EachOnceLaws.{first_of-each_once, first_of-append, flat_map-append, or_none}
 

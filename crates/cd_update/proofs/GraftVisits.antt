@@ -22,7 +22,7 @@ use Rattle.cd_cell.proofs.BagLaws.{well_formed-bag}
 use Rattle.cd_update.specs.declared.visit.Node.{Node}
 use Rattle.cd_update.specs.declared.visit.Visit.{Visit}
 use Rattle.cd_update.specs.EachOnce.{first_of}
-use Rattle.cd_update.specs.Places.{Place, places}
+use Rattle.cd_cell.specs.Places.{Place, places}
 use Rattle.cd_update.specs.Nodes.{same_node, node, next_nodes, nodes_from, IsShown}
 use Rattle.cd_update.specs.Visits.{spot, nodes_of, no_visit, visit_at, place_of, IsWalked}
 use Rattle.cd_update.specs.Pairing.{upto, IsOldInfo}

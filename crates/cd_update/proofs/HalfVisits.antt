@@ -17,7 +17,7 @@ use Rattle.cd_update.specs.declared.visit.Visit.{Visit}
 use Rattle.cd_update.specs.declared.pair_fault.PairFault.{PairFault}
 use Rattle.cd_update.specs.declared.pair_fault.PairFault.TheVariants.{OldHash, OldDepth, OldHalf, Memory}
 use Rattle.cd_update.specs.EachOnce.{each_once, first_of}
-use Rattle.cd_update.specs.Places.{Place, places}
+use Rattle.cd_cell.specs.Places.{Place, places}
 use Rattle.cd_update.specs.Visits.{visited, IsWalked, IsHalf}
 use Rattle.cd_update.specs.Pairing.{beside, wanted_at, misfit_at, misfit_among, first_misfit, wanted_hashes, wanted_hashes_below}
 use Rattle.cd_update.specs.Grafts.{foreign_at, foreign_hash}

@@ -25,7 +25,7 @@ use Rattle.cd_cell.proofs.Heights.{IsSteady-info_of}
 use Rattle.cd_cell.proofs.Showing.{matches-Decides, Shows-from_misfit}
 use Rattle.cd_cell.proofs.Wanted.{same_kind, IsOld, rep-flat, old-children}
 use Rattle.cd_update.specs.EachOnce.{first_of}
-use Rattle.cd_update.specs.Places.{Place, places, places_of_all}
+use Rattle.cd_cell.specs.Places.{Place, places, places_of_all}
 use Rattle.cd_update.specs.Pairing.{upto, unlike, known_at, misfit_at, first_misfit, beside, wanted_at, wanted_hashes, wanted_hashes_below, root_refusal, half_root_refusal, pair_refusal, tree_refusal, AreOf}
 use Rattle.cd_update.specs.PairingBelow.{misfit_under, refusal_below, AreBelow}
 use Rattle.cd_update.proofs.EachOnceLaws.{first_of-append, flat_map-append, Contains-flat_map, Contains-each_once, or_assoc}

@@ -14,7 +14,7 @@ use Rattle.cd_update.specs.declared.visit.Visit.{Visit}
 use Rattle.cd_update.specs.declared.pair_fault.PairFault.{PairFault}
 use Rattle.cd_update.specs.declared.pair_fault.PairFault.TheVariants.{OldHash, OldDepth, OldHalf, Memory}
 use Rattle.cd_update.specs.EachOnce.{with_new, each_once}
-use Rattle.cd_update.specs.Places.{Place}
+use Rattle.cd_cell.specs.Places.{Place}
 use Rattle.cd_update.specs.Visits.{visit_at, place_of, visited}
 use Rattle.cd_update.specs.Pairing.{beside, unlike, visible_hash, wanted_at, misfit_at}
 use Rattle.cd_update.specs.Answers.{refusal_of_pairing}

@@ -10,7 +10,7 @@ use Rattle.cd_cell.specs.Tree.{Tree, cell, Trees, no_trees, tree_and, face_of, h
 use Rattle.cd_cell.specs.Updates.{is_hidden, wanted, wanted_of_all}
 use Rattle.cd_update.specs.declared.visit.Visit.{Visit}
 use Rattle.cd_update.specs.EachOnce.{with_new, each_once, first_of}
-use Rattle.cd_update.specs.Places.{Place, places, places_of_all}
+use Rattle.cd_cell.specs.Places.{Place, places, places_of_all}
 use Rattle.cd_update.specs.Visits.{nodes_of, no_visit, visit_at, place_of, visited}
 use Rattle.cd_update.specs.Pairing.{wanted_at}
 use Rattle.cd_update.proofs.EachOnceLaws.{fold-append, flat_map-append, first_of-append}

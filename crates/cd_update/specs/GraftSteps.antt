@@ -8,7 +8,7 @@ use Rattle.cd_cell.specs.BagView.{BagView}
 use Rattle.cd_cell.specs.Bags.{bag_tree}
 use Rattle.cd_update.specs.declared.visit.Visit.{Visit}
 use Rattle.cd_update.specs.EachOnce.{first_of}
-use Rattle.cd_update.specs.Places.{places}
+use Rattle.cd_cell.specs.Places.{places}
 use Rattle.cd_update.specs.Visits.{spot, visit_at, IsWalked}
 use Rattle.cd_update.specs.Pairing.{IsOldInfo}
 use Rattle.cd_update.specs.Grafts.{grafted_info, foreign_at}

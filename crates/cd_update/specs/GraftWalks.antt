@@ -10,7 +10,7 @@ use Rattle.cd_cell.specs.Updates.{is_hidden}
 use Rattle.cd_update.specs.declared.visit.Node.{Node}
 use Rattle.cd_update.specs.declared.visit.Visit.{Visit}
 use Rattle.cd_update.specs.declared.grafting.HalfGraft.{HalfGraft}
-use Rattle.cd_update.specs.Places.{Place}
+use Rattle.cd_cell.specs.Places.{Place}
 use Rattle.cd_update.specs.Visits.{spot, visited}
 use Rattle.cd_update.specs.Grafts.{grafted_info, grafted_face, own_faces_at}
 use Rattle.cd_update.specs.EachOnce.{each_once}

@@ -9,7 +9,7 @@ use Rattle.cd_cell.specs.Tree.{Tree, cell, Trees, no_trees, tree_and, info_of, f
 use Rattle.cd_cell.specs.Unfolding.{no_tree}
 use Rattle.cd_cell.specs.Updates.{is_hidden, stands_for, some_unless, found_in, grafted, own_cells}
 use Rattle.cd_cell.specs.Equality.{same_info, same_face}
-use Rattle.cd_update.specs.Places.{Place, places}
+use Rattle.cd_cell.specs.Places.{Place, places}
 use Rattle.cd_update.specs.EachOnce.{each_once, first_of}
 
 -- the first known cell that stands for a hidden one

@@ -5,7 +5,7 @@ use Rattle.cd_base.specs.declared.hash.Hash256.{Hash256}
 use Rattle.cd_cell.specs.declared.info.ChildInfo.{ChildInfo}
 use Rattle.cd_cell.specs.Tree.{Tree, info_of, face_of}
 use Rattle.cd_cell.specs.Updates.{is_hidden, stands_for}
-use Rattle.cd_update.specs.Places.{Place, places}
+use Rattle.cd_cell.specs.Places.{Place, places}
 
 module _ (H : List ℕ → Hash256) (known : ChildInfo) where
   -- the cell in a place is hidden, and the known one stands for it

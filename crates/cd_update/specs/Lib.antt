@@ -1,5 +1,4 @@
 pub mod EachOnce
-pub mod Places
 pub mod Nodes
 pub mod UpdateFaults
 pub mod Visits

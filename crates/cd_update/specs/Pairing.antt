@@ -15,7 +15,7 @@ use Rattle.cd_cell.specs.Equality.{same_hash, same_info}
 use Rattle.cd_cell.specs.Export.{IsClashFree}
 use Rattle.cd_cell.specs.Updates.{agrees, is_hidden, Misfit, UpdateRefusal, old_hash, old_depth, old_half, some_unless, half_of, wanted, hash_refusal, depth_refusal, half_refusal}
 use Rattle.cd_update.specs.EachOnce.{each_once, first_of}
-use Rattle.cd_update.specs.Places.{Place, places}
+use Rattle.cd_cell.specs.Places.{Place, places}
 
 -- what a cell without a level above d shows, by what a cell shows that matches it up to d
 abbrev pub upto : ℕ → ChildInfo → ChildInfo

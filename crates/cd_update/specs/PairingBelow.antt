@@ -10,7 +10,7 @@ use Rattle.cd_cell.specs.CellFaults.{stated_depth_of_kid}
 use Rattle.cd_cell.specs.Tree.{Tree, children, subtrees, info_of, face_of, rep_of, mask_of, IsWellFormed}
 use Rattle.cd_cell.specs.Updates.{Misfit, UpdateRefusal, old_half, half_of}
 use Rattle.cd_update.specs.EachOnce.{first_of}
-use Rattle.cd_update.specs.Places.{places}
+use Rattle.cd_cell.specs.Places.{places}
 use Rattle.cd_update.specs.Pairing.{beside, misfit_at, root_refusal, wanted_hashes_below}
 
 module _ (H : List ℕ → Hash256) where

@@ -6,7 +6,7 @@ use Rattle.cd_cell.specs.Tree.{Tree}
 use Rattle.cd_cell.specs.Updates.{half_of}
 use Rattle.cd_cell.specs.Bags.{bag_tree, IsBag}
 use Rattle.cd_update.specs.EachOnce.{each_once}
-use Rattle.cd_update.specs.Places.{Place}
+use Rattle.cd_cell.specs.Places.{Place}
 use Rattle.cd_update.specs.Nodes.{same_node, nodes_from, IsShown}
 use Rattle.cd_update.specs.declared.visit.Node.{Node}
 use Rattle.cd_update.specs.declared.visit.Visit.{Visit}

@@ -181,7 +181,7 @@ module _ (H : List ℕ → Hash256) where
               (λ there. Contains-append_right (map (info_of_new H) cs) (map (info_of H) old) k there)
               (Contains-append_cases (map (info_of_new H) whole) (map (info_of H) old) k (known c (within c (Contains-first c cs)) k h))
 
-    module _ (root : ChildInfo) (cells : List NewCell) (valid : IsValid H root cells) (masks : All (λ c. All (λ k. k.mask ≤ 7) c.face.kids) cells) (fits : Fits H root cells olds) where
+    module _ (root : ChildInfo) (cells : List NewCell) (valid : IsValid H root cells) (fits : Fits H root cells olds) where
       all-good : (cs : List NewCell) → ((c : NewCell) → Contains cs c → Contains cells c) → AreGood cs
       all-good [] within = tt
       all-good (c ∷ cs) within = (good-listed root cells valid c (within c (Contains-first c cs)), all-good cs (λ x h. within x (Contains-later c cs x h)))
@@ -190,7 +190,7 @@ module _ (H : List ℕ → Hash256) where
       cells-good = all-good cells (λ c h. h)
 
       pub cells-behind : AreKidsBehind cells
-      cells-behind = behind-from cells (good-listed root cells valid) (λ c h. All-contains (λ (c : NewCell). All (λ k. k.mask ≤ 7) c.face.kids) cells c masks h)
+      cells-behind = behind-from cells (good-listed root cells valid) (λ c h. All-contains (λ (c : NewCell). All (λ k. k.mask ≤ 7) c.face.kids) cells c valid.masks h)
           (λ c h k kid. All-contains (Contains (known_infos H cells olds)) c.face.kids k (All-contains (λ (c : NewCell). All (Contains (known_infos H cells olds)) c.face.kids) cells c fits.kids h) kid)
           cells (order_from_AllPairs (λ a b. listing_cmp a b ≡ Less) cells valid.ordered) (λ c h. h) (λ x h. inl h)
 

@@ -38,7 +38,7 @@ use Rattle.cd_world.specs.Changes.{with_block, stored, without_pin, without_pins
 use Rattle.cd_world.specs.Machine.{rows_at, two_rows, blocks_of, refused_if, unrelated, other_root, unmergeable, refusal_of, answered, reply_of, unless_expired, moved, is_refused}
 use Rattle.cd_world.specs.Following.{Follows}
 use Rattle.cd_world.specs.Told.{ToldWorld, states_of, with_state, held, count, IsSoundBlock, IsSound, made, with_stored, first_clash, first_overflow, storing_refusal, cell_refusal, stated, told_after, FollowsTold}
-use Rattle.cd_world.specs.Preparing.{IsCellOf, StaysClear, StandsForPrepared}
+use Rattle.cd_world.specs.Preparing.{IsCellOf, KnownOverStates, StaysClear, StandsForPrepared}
 use Rattle.cd_world.specs.Soundness.{IsStorable, IsAsked, StaysSound}
 use Rattle.cd_world.proofs.Searches.{find-contains, find-some}
 use Rattle.cd_world.proofs.Orders.{Contains-filter, count_by-filter, All-from_Contains, Contains-placed}
@@ -152,6 +152,15 @@ module _ (H : List ℕ → Hash256) where
 
   -- ---- a state is stored
 
+  -- a cell of the state of a block that is there
+  state-cell : (t : ToldWorld) (ids : List BlockId) → ((q : BlockId) → Contains ids q → IsThere t.world q) → (s : Tree) → Contains (old_cells (map t.state ids)) s → Contains (cells_of H t) s
+  state-cell t ids there s h =
+      let from = flat_map-cases (map t.state ids) s h in
+      let q = Contains-map t.state ids from.0 from.1 in
+      let block = there q.0 q.1 in
+      let state : t.state (block.0).id ≡ from.0 = ap t.state block.2 ∙ q.2 in
+      block-cell t block.0 s block.1 (subst (λ (r : Tree). Contains (subtrees r) s) (sym state) from.2)
+
   module _ (t : ToldWorld) (are : AreSound t) (id : BlockId) (parents tops : List BlockId) (p : PreparedView) (storable : IsStorable H id tops p)
       (fresh : block_at t.world id ≡ None) (there : (q : BlockId) → Contains parents q → IsThere t.world q) (fits : Fits H p.root p.cells (map t.state parents)) where
     abbrev olds : List Tree
@@ -167,12 +176,7 @@ module _ (H : List ℕ → Hash256) where
     new_block = stored id parents tops p
 
     old-cell : (s : Tree) → Contains (old_cells olds) s → Contains (cells_of H t) s
-    old-cell s h =
-        let from = flat_map-cases olds s h in
-        let q = Contains-map t.state parents from.0 from.1 in
-        let block = there q.0 q.1 in
-        let state : t.state (block.0).id ≡ from.0 = ap t.state block.2 ∙ q.2 in
-        block-cell t block.0 s block.1 (subst (λ (r : Tree). Contains (subtrees r) s) (sym state) from.2)
+    old-cell = state-cell t parents there
 
     good-cell : (s : Tree) → Contains (cells_of H t) s → IsWellFormed H s
     good-cell s h = let at = cell-block t s h in let block = are.blocks at.0 at.1 in well_formed-subtree H (t.state (at.0).id) s block.good at.2
@@ -200,10 +204,10 @@ module _ (H : List ℕ → Hash256) where
         (Contains-placed new_block t.world.blocks at.0 at.1)
 
     abbrev listed : List Tree
-    listed = made_cells H olds good-old p.root p.cells storable.valid storable.masks fits
+    listed = made_cells H olds good-old p.root p.cells storable.valid fits
 
     new-cell : (s : Tree) → Contains (subtrees new) s → Contains listed s ⊎ Contains (cells_of H t) s
-    new-cell s h = ⊎_elim inl (λ old_one. inr (old-cell s old_one)) (cell-made H olds good-old p.root p.cells storable.valid storable.masks fits s h)
+    new-cell s h = ⊎_elim inl (λ old_one. inr (old-cell s old_one)) (cell-made H olds good-old p.root p.cells storable.valid fits s h)
 
     -- ---- free of clashes
 
@@ -211,7 +215,7 @@ module _ (H : List ℕ → Hash256) where
     pub cell-known : (s : Tree) → Contains (subtrees new) s → IsCellOf H t p s
     cell-known s h = ⊎_elim
         (λ one.
-        let made = are-made H olds good-old p.root p.cells storable.valid storable.masks fits in
+        let made = are-made H olds good-old p.root p.cells storable.valid fits in
         inr (Contains-map (λ (c : NewCell). c.face) p.cells (face_of H s) (subst (λ (fs : List FaceView). Contains fs (face_of H s)) made.faces (Contains-mapped (face_of H) listed s one))))
         inl
         (new-cell s h)
@@ -255,7 +259,7 @@ module _ (H : List ℕ → Hash256) where
         let there_new = Contains-first new (tree ∷ []) in
         let there_tree = Contains-later new (tree ∷ []) tree (Contains-first tree []) in
         same_subtrees H both clear new tree (flat_map-listed both new new there_new (subtree-itself new)) (flat_map-listed both tree tree there_tree (subtree-itself tree))
-        (ap rep_of_info (info-made H olds good-old p.root p.cells storable.valid storable.masks fits ∙ sym info))
+        (ap rep_of_info (info-made H olds good-old p.root p.cells storable.valid fits ∙ sym info))
       where
         side : (s : Tree) → Contains (flat_map subtrees (new ∷ tree ∷ [])) s → IsCellOf H t p s
         side s h =
@@ -273,11 +277,11 @@ module _ (H : List ℕ → Hash256) where
     module _ (related : lineage_fault id parents ≡ None) (root : parents ≡ [] → id.root ≡ rep_of_info p.root) (few : length parents ≤ 2) (named : AllByRecursion IsBlockId parents) where
       new-sound : IsSoundBlock H v.state new_block
       new-sound =
-          let shows = info-made H olds good-old p.root p.cells storable.valid storable.masks fits in
+          let shows = info-made H olds good-old p.root p.cells storable.valid fits in
           let valid = storable.valid in
           let info : info_of H (v.state id) ≡ p.root = ap (info_of H) state-new ∙ shows in
           record {
-            good = subst (IsWellFormed H) (sym state-new) (good-made H olds good-old p.root p.cells storable.valid storable.masks fits);
+            good = subst (IsWellFormed H) (sym state-new) (good-made H olds good-old p.root p.cells storable.valid fits);
             plain = ap (λ (k : ChildInfo). k.mask) info ∙ valid.plain;
             root = ap rep_of_info info;
             depth = ap height_of_info info;
@@ -446,6 +450,10 @@ module _ (H : List ℕ → Hash256) where
         stays_sound limit (told_after H t e) es low (sound_after limit low t e sound follow.0 asked.0) follow.1 asked.1
 
   -- ---- prepared values
+
+  pub known_over_states : KnownOverStates H
+  known_over_states t parents p s there known =
+      ⊎_elim (λ old. inl (state-cell t parents (λ q h. there-found t.world q (All-contains (λ q. IsSome (block_at t.world q)) parents q there h)) s old)) inr known
 
   pub all_together : StaysClear H
   all_together t p ns sound valid none known = beside-clear H t sound.clear p valid none ns known

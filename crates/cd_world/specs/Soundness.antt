@@ -1,5 +1,5 @@
 -- Trusted: a journal that follows leads from a sound world to a sound world.
-use Rattle.std.specs.Prelude.{◌≡◌, ℕ, ◌<◌, ◌≤◌, true, List, [], ◌∷◌, length, map, All, IsTrue, Some}
+use Rattle.std.specs.Prelude.{◌≡◌, ℕ, ◌<◌, ◌≤◌, true, List, [], ◌∷◌, length, map, IsTrue, Some}
 use Rattle.std.specs.List.{AllByRecursion}
 use Rattle.cd_base.specs.declared.hash.Hash256.{Hash256}
 use Rattle.cd_block.specs.declared.block.BlockId.{BlockId}
@@ -19,10 +19,9 @@ use Rattle.cd_world.specs.Told.{ToldWorld, told_after, told_replay, AllFollowTol
 
 module _ (H : List ℕ → Hash256) where
   -- what a call asks of a state that is to be stored, for every keeper: a valid value, and tops on a masterchain block
-  -- alone, at most 64; beside what each id, hash and mask of the program is
+  -- alone, at most 64; beside what each id and hash of the program is
   pub record IsStorable (id : BlockId) (tops : List BlockId) (p : PreparedView) : Type 0 where
     pub valid : IsValid H p.root p.cells
-    pub masks : All (λ c. All (λ k. k.mask ≤ 7) c.face.kids) p.cells
     pub root : IsHash (rep_of_info p.root)
     pub named : IsBlockId id
     pub tops_named : AllByRecursion IsBlockId tops

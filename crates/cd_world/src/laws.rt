@@ -4,7 +4,7 @@ ghost use Rattle.cd_world.specs.Journals.{ReplayGoesOn, FollowingGoesOn, ToldRep
 ghost use Rattle.cd_world.specs.OldTrees.{OldTreeIsKnown};
 ghost use Rattle.cd_world.specs.OneImage.{OneImage, OneWorld};
 ghost use Rattle.cd_world.specs.Pinning.{PinStays, TreeStays};
-ghost use Rattle.cd_world.specs.Preparing.{StaysClear, StandsForPrepared};
+ghost use Rattle.cd_world.specs.Preparing.{KnownOverStates, StaysClear, StandsForPrepared};
 ghost use Rattle.cd_world.specs.Soundness.{StaysSound};
 ghost use Rattle.cd_world.specs.ToldTrees.{ContentsTellTrees};
 
@@ -58,6 +58,7 @@ pub fn a_sound_world_stays_sound<H: Hash32>()
 
 /// Where a value clashes with nothing held, what is stored of it is the tree that was prepared.
 pub fn a_stored_value_is_the_prepared_tree<H: Hash32>()
+    ensures known { KnownOverStates H.digest_of }
     ensures clear { StaysClear H.digest_of }
     ensures stands { StandsForPrepared H.digest_of }
 {}

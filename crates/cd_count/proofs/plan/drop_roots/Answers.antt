@@ -1,4 +1,4 @@
-use Rattle.std.proofs.Common.{◌≡◌, ℕ, ◌+◌, ◌<◌, List, map, length, Option, Some, IfSome, subst, ◌∙◌, arith}
+use Rattle.std.proofs.Common.{◌≡◌, ℕ, ◌+◌, ◌*◌, ◌<◌, ◌≤◌, List, map, length, Option, Some, IfSome, subst, ◌∙◌, arith}
 use Rattle.cd_base.specs.declared.hash.Hash256.{Hash256}
 use Rattle.cd_cell.specs.Tree.{Tree}
 use Rattle.cd_keeper.specs.Contents.{Contents}
@@ -7,12 +7,12 @@ use Rattle.std.specs.BTreeMap as tree
 use Rattle.cd_cell.specs.Export.{hash_cmp}
 use Rattle.cd_world.specs.World.{World, Block}
 use Rattle.cd_count.specs.declared.rows.Row.{Row}
-use Rattle.cd_count.specs.Changes.{states, rep_bytes, AreTogether, AreAdded}
+use Rattle.cd_count.specs.Changes.{states, rep_bytes, AreTogether, AreAdded, AreDeadCells}
 use Rattle.cd_count.specs.PlanWorlds.{IsReadable, IsDropped}
 use Rattle.cd_count.specs.PlanRows.{rows_of}
 use Rattle.cd_count.specs.PlanSteps.{RowMap, kid_bytes, AreTaken}
 use Rattle.cd_count.specs.Reading.{stored_in}
-use Rattle.cd_count.proofs.Drops.{IsGoing, going-begun, going-next, going-ended}
+use Rattle.cd_count.proofs.Drops.{IsGoing, going-begun, going-next, going-few, going-ended}
 use Rattle.cd_count.proofs.Steps.{if_some-map, if_both}
 use Rattle.cd_count.proofs.plan.drop_roots.Goals as goal
 
@@ -82,3 +82,43 @@ returns-clause-dropped g c =
     (λ contents going H old grown left come gone news readable added went named.
     going-ended H contents old grown left come gone news readable c.args.rows.now added went c.loop-next.rows c.loop-next.dead.items c.loop-next.next
     (going H old grown left come gone news readable added went named) (omega (arith, c.len.ensures, c.loop-next-test.false)))
+
+-- what is read is within the bound of the cells that go
+abbrev ReadBy : RowMap → List Hash256 → ℕ → ℕ → Contents → Type 0
+ReadBy rows0 roots before after contents =
+    (H : List ℕ → Hash256) (old grown left : World) (come gone : List Block) (news dead : List Tree)
+    → IsReadable H old contents → AreAdded H old grown come news (rows_of rows0.entries) → AreTogether H left.blocks gone grown.blocks
+    → map (rep_bytes H) (states gone) ≡ map hash_bytes roots → AreDeadCells H grown.blocks gone dead
+    → after ≤ before + (4 * length dead + length roots)
+
+-- since it is within that of those that are dead so far
+read-by : (rows0 : RowMap) (roots : List Hash256) (rows : RowMap) (dead : List Hash256) (next before after : ℕ) → after ≤ before + (length roots + 4 * length dead)
+    → (contents : Contents) → Goes rows0 roots rows dead next contents → ReadBy rows0 roots before after contents
+read-by rows0 roots rows dead next before after few contents going H old grown left come gone news all readable added went named are =
+    let n = going-few H contents old grown left come gone news readable rows0 added went rows dead next (going H old grown left come gone news readable added went named) all are in
+    omega arith
+
+pub returns-in_err-take_kids-clause-reads : goal.returns-in_err-take_kids-clause-reads
+returns-in_err-take_kids-clause-reads g c =
+    let so = c.loop-next.invariant in
+    let rows0 = c.args.rows.now in
+    let roots = c.args.roots.now in
+    let dead = c.loop-next.dead.items in
+    let within : c.loop-next.next < length dead = omega (arith, c.len.ensures, c.loop-next-test.true) in
+    let before = g.K.Keeper.reads c.args.keeper.now in
+    let after = g.K.Keeper.reads c.take_kids.new.keeper in
+    let few : after ≤ before + (length roots + 4 * length dead) = omega (arith, c.in_err-take_kids.ensures.reads, so.reads, within) in
+    if_some-map (Goes rows0 roots c.loop-next.rows dead c.loop-next.next) (ReadBy rows0 roots before after) (g.K.Keeper.held c.args.keeper.now) so.going
+    (read-by rows0 roots c.loop-next.rows dead c.loop-next.next before after few)
+
+pub returns-clause-reads : goal.returns-clause-reads
+returns-clause-reads g c =
+    let so = c.loop-next.invariant in
+    let rows0 = c.args.rows.now in
+    let roots = c.args.roots.now in
+    let dead = c.loop-next.dead.items in
+    let before = g.K.Keeper.reads c.args.keeper.now in
+    let after = g.K.Keeper.reads c.loop-next.keeper in
+    let few : after ≤ before + (length roots + 4 * length dead) = omega (arith, so.reads, so.within) in
+    if_some-map (Goes rows0 roots c.loop-next.rows dead c.loop-next.next) (ReadBy rows0 roots before after) (g.K.Keeper.held c.args.keeper.now) so.going
+    (read-by rows0 roots c.loop-next.rows dead c.loop-next.next before after few)

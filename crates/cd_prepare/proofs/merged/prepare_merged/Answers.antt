@@ -1,12 +1,12 @@
 -- What is grafted of the update is well-formed, and so is the joined cell.
-use Rattle.std.proofs.Common.{◌≡◌, ◌⊎◌, [], ◌∷◌, ◌++◌, All, Some, inr, refl, ap, ap₂, sym, subst, ◌∙◌}
+use Rattle.std.proofs.Common.{◌≡◌, ◌⊎◌, [], ◌∷◌, ◌++◌, All, Some, inl, inr, ⊎_elim, refl, ap, ap₂, sym, subst, ◌∙◌}
 use Rattle.std.specs.Option.{option_or}
 use Rattle.cd_cell.specs.FaceView.{FaceView}
 use Rattle.cd_cell.specs.Infos.{rep_of_info}
 use Rattle.cd_cell.specs.Steady.{IsSteady}
 use Rattle.cd_cell.specs.Tree.{face_of}
 use Rattle.cd_cell.specs.Joined.{joined_tree}
-use Rattle.cd_cell.specs.Listings.{tree_of}
+use Rattle.cd_cell.specs.Listings.{IsOldOrListed, tree_of}
 use Rattle.cd_cell.specs.Updates.{found_in, known_of, grafted, new_cells}
 use Rattle.cd_update.specs.Grafts.{own_faces}
 use Rattle.cd_update.specs.Hides.{hides}
@@ -18,9 +18,9 @@ use Rattle.cd_prepare.specs.Applied.{grafted_faces, new_faces, fault_over}
 use Rattle.cd_prepare.specs.Merged.{listed_if, is_given, merged_cells}
 use Rattle.cd_prepare.proofs.OwnFaces.{clear-faces, root-is}
 use Rattle.cd_prepare.proofs.MergedFaces.{split-steady, good-merged, valid-merged, fits-merged, merged-faces_of}
-use Rattle.cd_prepare.proofs.MergedTrees.{tree_of-merged}
+use Rattle.cd_prepare.proofs.MergedTrees.{merged-cell, tree_of-merged}
 use Rattle.cd_prepare.proofs.SplitFaults.{split-is, both-deep, merged-is, states, below, known-both, kid-state}
-use Rattle.cd_prepare.proofs.UpdateLaws.{refused-pair, refused-graft, refused-none, refused-clash, clash-none, answer-pair, answer-graft, answer-none, answer-clash, applied-is, listed-new_cells}
+use Rattle.cd_prepare.proofs.UpdateLaws.{refused-pair, refused-graft, refused-none, refused-clash, clash-none, answer-pair, answer-graft, answer-none, answer-clash, applied-is, listed-new_cells, own-listed}
 use Rattle.cd_prepare.proofs.merged.prepare_merged.Goals as goal
 
 pub new_cells-requires-clause-good : goal.new_cells-requires-clause-good
@@ -216,4 +216,10 @@ returns-in-Ok-new_cells-clause-applied g c a b are =
           (λ k kid. kid-state H a b split.face there.face k kid)
           c.new.result.root c.new.result.cells (root_made ∙ c.in-Ok-graft.ensures.root) c.new.ensures.cells;
       stands = λ free. ap₂ (λ r cs. tree_of H r cs olds) root_is cells_are ∙ tree_of-merged is a b (states are deep) tree applies free;
+      known = λ s in-new.
+          subst (λ cs. IsOldOrListed H cs olds s) (sym c.new.ensures.cells)
+          (⊎_elim
+          (λ own. inr (own-listed H (merged_cells H u a b) faces (merged-faces_of H (new_cells H u t) (is_given H u a b) t faces made_tree) clear cells listed s own))
+          inl
+          (merged-cell is a b (states are deep) tree applies s in-new));
     }

@@ -1,12 +1,14 @@
 -- The update is well-formed and of mask 0, so what is grafted of it is too; over an old tree its faults are the tree's.
-use Rattle.std.proofs.Common.{◌≡◌, Contains, refl, ap, ap₂, sym, subst, ◌∙◌, ◌⊎◌, ⊎_elim, [], ◌∷◌}
+use Rattle.std.proofs.Common.{◌≡◌, Contains, refl, ap, ap₂, sym, subst, ◌∙◌, ◌⊎◌, ⊎_elim, inl, inr, [], ◌∷◌}
+use Rattle.std.proofs.lemmas.List.Elements.{Contains-append_left}
 use Rattle.cd_cell.specs.declared.info.ChildInfo.{ChildInfo}
 use Rattle.cd_cell.specs.FaceView.{FaceView}
 use Rattle.cd_cell.specs.Infos.{rep_of_info}
 use Rattle.cd_cell.specs.Levels.{info_of_face}
-use Rattle.cd_cell.specs.Listings.{known_infos, Fits, tree_of}
+use Rattle.cd_cell.specs.Tree.{subtrees}
+use Rattle.cd_cell.specs.Listings.{known_infos, Fits, IsOldOrListed, tree_of}
 use Rattle.cd_cell.specs.Updates.{found_in, known_of, grafted, new_cells}
-use Rattle.cd_cell.proofs.NewCells.{tree_of-new_cells}
+use Rattle.cd_cell.proofs.NewCells.{applied-cell, tree_of-new_cells}
 use Rattle.cd_update.specs.Grafts.{grafted_info, own_faces}
 use Rattle.cd_update.specs.Pairing.{pair_refusal}
 use Rattle.cd_update.specs.UpdateTrees as update
@@ -14,7 +16,7 @@ use Rattle.cd_prepare.specs.Applied.{grafted_faces, new_faces}
 use Rattle.cd_update.proofs.HalfVisits.{update-tree}
 use Rattle.cd_prepare.proofs.NewLists.{Fits-faces, known-listed}
 use Rattle.cd_prepare.proofs.OwnFaces.{WasHidden, clear-faces, good-faces, valid-listing, root-is, kids-shown, root-shown}
-use Rattle.cd_prepare.proofs.UpdateLaws.{each-face, refused-pair, refused-graft, refused-none, refused-clash, clash-none, answer-pair, answer-graft, answer-none, answer-clash, applied-is, known-old, listed-new_cells}
+use Rattle.cd_prepare.proofs.UpdateLaws.{each-face, refused-pair, refused-graft, refused-none, refused-clash, clash-none, answer-pair, answer-graft, answer-none, answer-clash, applied-is, known-old, listed-new_cells, own-listed}
 use Rattle.cd_prepare.proofs.update.prepare_update.Goals as goal
 
 pub returns-in-Err-clause-exact : goal.returns-in-Err-clause-exact
@@ -115,6 +117,12 @@ returns-in-Ok-new_cells-clause-applied g c t are =
       stands = λ free.
           ap₂ (λ r cs. tree_of H r cs (t ∷ [])) root_is cells_are
           ∙ tree_of-new_cells H u t is.well are.well is.kind is.plain tree applies free;
+      known = λ s in-new.
+          subst (λ cs. IsOldOrListed H cs (t ∷ []) s) (sym cells_made)
+          (⊎_elim
+          (λ own. inr (own-listed H (new_cells H u t) faces (each-face H (new_cells H u t) faces (c.as_slice.ensures ∙ new.cells_are)) clear cells listed s own))
+          (λ old. inl (Contains-append_left (subtrees t) [] s old))
+          (applied-cell H u t is.well are.well is.kind is.plain tree applies s in-new));
     }
 
 pub returns-in-Err-clause-refused : goal.returns-in-Err-clause-refused

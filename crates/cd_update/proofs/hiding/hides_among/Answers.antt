@@ -3,7 +3,7 @@ use Rattle.std.proofs.Common.{◌≡◌, ◌<◌, length, take, Option, Some, No
 use Rattle.std.specs.Prelude.{if◌then◌else◌, is_some}
 use Rattle.std.proofs.lemmas.List.{take_all}
 use Rattle.cd_update.specs.EachOnce.{first_of}
-use Rattle.cd_update.specs.Places.{Place}
+use Rattle.cd_cell.specs.Places.{Place}
 use Rattle.cd_update.specs.Visits.{visit_at, place_of, visited}
 use Rattle.cd_update.specs.Hides.{hides_at}
 use Rattle.cd_update.proofs.BelowVisits.{any-first}

@@ -1,5 +1,5 @@
 -- The numbers that were cut off are those of the children.
-use Rattle.std.proofs.Common.{◌≡◌, ℕ, ◌<◌, length, map, All, get_or, take, [], ap, ap₂, sym, subst, ◌∙◌}
+use Rattle.std.proofs.Common.{◌≡◌, ◌<◌, length, map, All, get_or, take, [], ap, ap₂, sym, subst, ◌∙◌}
 use Rattle.cd_cell.specs.Tree.{height_of}
 use Rattle.cd_cell.specs.Bags.{bag_tree, face_at}
 use Rattle.cd_cell.proofs.BagLaws.{children-bag, lower-bag, behind-bag}
