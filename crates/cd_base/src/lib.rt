@@ -34,6 +34,3 @@ pub use sink::Sink;
 pub use source::Source;
 pub use std_adapters::{StdSink, StdSource};
 pub use whole::{read_all, write_all};
-
-#[cfg(test)]
-mod tests;

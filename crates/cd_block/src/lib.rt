@@ -22,6 +22,3 @@ pub use reading::decode_descr;
 pub use shard::ShardId;
 pub use spelling::{parse_id, print_id};
 pub use writing::encode_descr;
-
-#[cfg(test)]
-mod tests;

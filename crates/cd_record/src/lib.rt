@@ -14,6 +14,3 @@ pub use reading::{decode, version_of};
 pub use record::Record;
 pub use record_fault::RecordFault;
 pub use writing::{encode, encode_cell, encode_v1};
-
-#[cfg(test)]
-mod tests;

@@ -1,5 +1,5 @@
 //! What no clause says: values from outside, printed texts, and that each call succeeds with ample memory.
-use crate::{
+use cd_base::{
     ByteReader, ByteWriter, Crc, Failed, Hash256, Memory, MemorySink, MemorySource, ReadAllFault,
     StdSink, StdSource, SteadySink, SteadySource, crc32c, from_be, from_le, one_more, read_all,
     write_all,

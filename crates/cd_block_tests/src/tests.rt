@@ -1,5 +1,8 @@
-use super::*;
 use cd_base::Hash256;
+use cd_block::{
+    BlockId, BlockIds, Descr, DescrFault, LineageFault, ShardId, decode_descr, encode_descr,
+    expires, lineage, parse_id, print_id,
+};
 use std::test::Fail;
 
 /// The hash of the ordinary cell without bits and references.

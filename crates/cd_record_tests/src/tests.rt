@@ -1,6 +1,6 @@
-use crate::{Record, RecordFault, decode, encode, encode_v1, version_of};
 use cd_base::Hash256;
 use cd_cell::{Bits, CellFault, ChildInfo, Face, Mask};
+use cd_record::{Record, RecordFault, decode, encode, encode_v1, version_of};
 use std::test::Fail;
 
 /// The record of the cell without bits and references, to which there is one reference, in each version.
