@@ -125,6 +125,9 @@ module _ (H : List ℕ → Hash256) where
     pub state-new : v.state id ≡ new
     state-new = ap (λ b. cond b new (t.state id)) (same_id-self id)
 
+    pub rep-come : rep_of H (v.state id) ≡ rep_of_info p.root
+    rep-come = ap rep_of_info (ap (info_of H) state-new ∙ info-made H olds good-old p.root p.cells storable.valid fits)
+
     other-id : (d : Descr) → Contains t.world.blocks d → same_id d.id id ≡ false
     other-id d h = false_from (same_id d.id id) (λ same.
         true≢false (sym (found-there t.world id (d, h, (same_id-Decides d.id id).0 same)) ∙ ap is_some fresh))
