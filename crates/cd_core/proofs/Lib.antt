@@ -1,5 +1,8 @@
 pub mod Brought
 pub mod DescrTables
-pub mod Planned
+pub mod Doings
+pub mod Journaling
 pub mod Keepings
+pub mod Planned
 pub mod Stores
+pub mod Writable
