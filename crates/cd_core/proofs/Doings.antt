@@ -55,6 +55,7 @@ module _ {K X : Type 0} (held : K → Option Contents) (H : List ℕ → Hash256
       writable = ready;
       batched = keeps.same_batches;
       caused = stands false refl same;
+      silent = λ none. keeps.same_held ∙ none;
       told = λ t is h. record { follows = tt; holds = holds-still t k k' keeps h; trailed = keeps.same_trail };
     }
 
@@ -71,6 +72,7 @@ module _ {K X : Type 0} (held : K → Option Contents) (H : List ℕ → Hash256
           writable = ready;
           batched = keeps.same_batches;
           caused = stands _ other same;
+          silent = λ none. keeps.same_held ∙ none;
           told = λ t is h. record {
             follows = by t.world is (cell_refusal H limit t who.worker event);
             holds = holds-still t k k' keeps h;
@@ -92,6 +94,7 @@ module _ {K X : Type 0} (held : K → Option Contents) (H : List ℕ → Hash256
           writable = ready;
           batched = keeps.same_batches;
           caused = record { later = later; steady = λ e. absurd (true≢false e); rose = λ _. rose };
+          silent = λ none. keeps.same_held ∙ none;
           told = λ t is h. record {
             follows = by t.world is (cell_refusal H limit t who.worker event);
             holds = holds-still t k k' keeps h;
@@ -114,6 +117,7 @@ module _ {K X : Type 0} (held : K → Option Contents) (H : List ℕ → Hash256
           writable = ready;
           batched = keeps.same_batches;
           caused = stands _ other same;
+          silent = λ none. keeps.same_held ∙ none;
           told = λ t is h. record {
             follows = subst (λ o. FollowsBy H t.world o (entry_of who event (reply.Refused r))) (sym (cells t is h)) (by t.world is);
             holds = holds-still t k k' keeps h;
@@ -182,6 +186,7 @@ module _ {K X : Type 0} (held : K → Option Contents) (H : List ℕ → Hash256
       writable = subst IsWritable (sym arrived) (writable-after H w (entry_of who event answer) ready plainly asked);
       batched = keeps.same_batches ∙ ap (λ b. cond b (one_more (batches k)) (batches k)) (sym none);
       caused = stands _ (unfailed answer unlike) same;
+      silent = λ nothing. keeps.same_held ∙ nothing;
       told = λ t at h.
           let facts = of_told t at in
           let so = h.are in
@@ -195,7 +200,7 @@ module _ {K X : Type 0} (held : K → Option Contents) (H : List ℕ → Hash256
 
     -- one batch was made
     pub batch-did : makes_batch answer ≡ true → (change : Change) → IsApplied held trail batches change k k' → faults k' ≡ faults k
-        → ((t : ToldWorld) (contents : Contents) → t.world ≡ w → AreSoundContents H t contents → (cell_refusal H limit t who.worker event ≡ None)
+        → ((t : ToldWorld) (contents : Contents) → t.world ≡ w → held k ≡ Some contents → AreSoundContents H t contents → (cell_refusal H limit t who.worker event ≡ None)
         × IsAsked H t who.worker event × IsContentsOf H (shown (moved_told t who.worker event)) (changed change contents) × HasBytes (changed change contents))
         → Did held H trail batches faults limit w k who event (Some answer) w' k'
     batch-did one change applied same of_told = record {
@@ -204,9 +209,10 @@ module _ {K X : Type 0} (held : K → Option Contents) (H : List ℕ → Hash256
       writable = subst IsWritable (sym arrived) (writable-after H w (entry_of who event answer) ready plainly asked);
       batched = applied.counted ∙ ap (λ b. cond b (one_more (batches k)) (batches k)) (sym one);
       caused = stands _ (unfailed answer unlike) same;
+      silent = λ nothing. applied.made ∙ ap (option_map (changed change)) nothing;
       told = λ t at h.
           let so = h.are in
-          let facts = of_told t h.contents at h.are in
+          let facts = of_told t h.contents at h.is_held h.are in
           let both = told-sound t at facts.0 facts.1.0 so.sound in
           record {
             follows = both.0;

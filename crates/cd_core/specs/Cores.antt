@@ -86,7 +86,8 @@ module _ {K : Type 0} (held : K → Option Contents) where
 
       module _ (batches faults : K → ℕ) where
         -- Each entry follows the world so far. The keeper's count of batches is that of the entries, and its count of
-        -- faults rose by at least the number of those that say that it failed, or stands at the last u64.
+        -- faults rose by at least the number of those that say that it failed, or stands at the last u64. A keeper that
+        -- told nothing at the start tells nothing.
         pub record IsCore (start : CoreStart K) (journal : List (Entry X)) (now : K) : Type 0 where
           pub follow : AllFollow H start.world.value journal
           pub writable : IsWritable (world_after start journal)
@@ -94,4 +95,5 @@ module _ {K : Type 0} (held : K → Option Contents) where
           pub limited : (1 ≤ start.limit) × (start.limit ≤ GREATEST_COUNT)
           pub is_batches : batches now ≡ batched journal (batches start.keeper.value)
           pub is_faults : min (faults start.keeper.value + failures journal) (2 ^ 64 - 1) ≤ faults now
+          pub silent : held start.keeper.value ≡ None → held now ≡ None
           pub told : IfSome (told_start start) (λ t. IsHeld start.limit t journal start.keeper.value now)
