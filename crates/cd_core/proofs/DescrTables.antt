@@ -88,7 +88,7 @@ none-dropped q (d ∷ ds) apart =
     ap₂ (λ a b. a || b) (apart d (Contains-first d ds)) (none-dropped q ds (λ x h. apart x (Contains-later d ds x h)))
 
 -- a key that ties with another is told apart from what that one is
-other-of : (q k y : List ℕ) → same_key q k ≡ true → same_key k y ≡ false → same_key q y ≡ false
+pub other-of : (q k y : List ℕ) → same_key q k ≡ true → same_key k y ≡ false → same_key q y ≡ false
 other-of q k y same apart = ap (λ (x : List ℕ). same_key x y) (same_bytes q k same) ∙ apart
 
 -- a block in its place

@@ -6,3 +6,5 @@ pub mod Keepings
 pub mod Planned
 pub mod Stores
 pub mod Writable
+pub mod ZeroDid
+pub mod Passed

@@ -8,7 +8,7 @@ mod laws;
 mod limits;
 mod world;
 
-pub use expiring::expired;
+pub use expiring::{expired, is_expired};
 pub use finding::{find_block, find_kept, is_pinned, is_same_id, pin_row, pins_of};
 pub use laws::{
     a_fitting_value_still_fits, a_journal_goes_on, a_pinned_block_stays, a_pinned_tree_stays,
