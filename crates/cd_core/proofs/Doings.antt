@@ -46,6 +46,9 @@ module _ {K X : Type 0} (held : K → Option Contents) (H : List ℕ → Hash256
   pub holds-still : (t : ToldWorld) (k k' : K) → KeepsHeld held trail batches k k' → Holds held H t k → Holds held H t k'
   holds-still t k k' keeps h = record { contents = h.contents; is_held = keeps.same_held ∙ h.is_held; are = h.are }
 
+  still-silent : (k k' : K) → KeepsHeld held trail batches k k' → held k ≡ None → held k' ≡ None
+  still-silent k k' keeps none = keeps.same_held ∙ none
+
   module _ (limit : ℕ) (w : World) (k k' : K) (who : Who) (event : Event X) where
     -- memory ran out
     pub memory-did : IsWritable w → KeepsHeld held trail batches k k' → faults k' ≡ faults k → Did held H trail batches faults limit w k who event None w k'
@@ -55,6 +58,7 @@ module _ {K X : Type 0} (held : K → Option Contents) (H : List ℕ → Hash256
       writable = ready;
       batched = keeps.same_batches;
       caused = stands false refl same;
+      silent = still-silent k k' keeps;
       told = λ t is h. record { follows = tt; holds = holds-still t k k' keeps h; trailed = keeps.same_trail };
     }
 
@@ -71,6 +75,7 @@ module _ {K X : Type 0} (held : K → Option Contents) (H : List ℕ → Hash256
           writable = ready;
           batched = keeps.same_batches;
           caused = stands _ other same;
+          silent = still-silent k k' keeps;
           told = λ t is h. record {
             follows = by t.world is (cell_refusal H limit t who.worker event);
             holds = holds-still t k k' keeps h;
@@ -92,6 +97,7 @@ module _ {K X : Type 0} (held : K → Option Contents) (H : List ℕ → Hash256
           writable = ready;
           batched = keeps.same_batches;
           caused = record { later = later; steady = λ e. absurd (true≢false e); rose = λ _. rose };
+          silent = still-silent k k' keeps;
           told = λ t is h. record {
             follows = by t.world is (cell_refusal H limit t who.worker event);
             holds = holds-still t k k' keeps h;
@@ -114,6 +120,7 @@ module _ {K X : Type 0} (held : K → Option Contents) (H : List ℕ → Hash256
           writable = ready;
           batched = keeps.same_batches;
           caused = stands _ other same;
+          silent = still-silent k k' keeps;
           told = λ t is h. record {
             follows = subst (λ o. FollowsBy H t.world o (entry_of who event (reply.Refused r))) (sym (cells t is h)) (by t.world is);
             holds = holds-still t k k' keeps h;
@@ -182,6 +189,7 @@ module _ {K X : Type 0} (held : K → Option Contents) (H : List ℕ → Hash256
       writable = subst IsWritable (sym arrived) (writable-after H w (entry_of who event answer) ready plainly asked);
       batched = keeps.same_batches ∙ ap (λ b. cond b (one_more (batches k)) (batches k)) (sym none);
       caused = stands _ (unfailed answer unlike) same;
+      silent = still-silent k k' keeps;
       told = λ t at h.
           let facts = of_told t at in
           let so = h.are in
@@ -195,7 +203,7 @@ module _ {K X : Type 0} (held : K → Option Contents) (H : List ℕ → Hash256
 
     -- one batch was made
     pub batch-did : makes_batch answer ≡ true → (change : Change) → IsApplied held trail batches change k k' → faults k' ≡ faults k
-        → ((t : ToldWorld) (contents : Contents) → t.world ≡ w → AreSoundContents H t contents → (cell_refusal H limit t who.worker event ≡ None)
+        → ((t : ToldWorld) (contents : Contents) → t.world ≡ w → held k ≡ Some contents → AreSoundContents H t contents → (cell_refusal H limit t who.worker event ≡ None)
         × IsAsked H t who.worker event × IsContentsOf H (shown (moved_told t who.worker event)) (changed change contents) × HasBytes (changed change contents))
         → Did held H trail batches faults limit w k who event (Some answer) w' k'
     batch-did one change applied same of_told = record {
@@ -204,9 +212,10 @@ module _ {K X : Type 0} (held : K → Option Contents) (H : List ℕ → Hash256
       writable = subst IsWritable (sym arrived) (writable-after H w (entry_of who event answer) ready plainly asked);
       batched = applied.counted ∙ ap (λ b. cond b (one_more (batches k)) (batches k)) (sym one);
       caused = stands _ (unfailed answer unlike) same;
+      silent = λ none. applied.made ∙ ap (option_map (changed change)) none;
       told = λ t at h.
           let so = h.are in
-          let facts = of_told t h.contents at h.are in
+          let facts = of_told t h.contents at h.is_held h.are in
           let both = told-sound t at facts.0 facts.1.0 so.sound in
           record {
             follows = both.0;

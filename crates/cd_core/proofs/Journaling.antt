@@ -157,6 +157,7 @@ module _ {K X : Type 0} (held : K → Option Contents) (H : List ℕ → Hash256
     limited = is.limited;
     is_batches = did.batched ∙ is.is_batches;
     is_faults = let low = is.is_faults in let up = did.caused in omega (arith, up.later);
+    silent = λ none. did.silent (is.silent none);
     told = if_told held start (λ t. IsHeld held H trail start.limit t es start.keeper.value k) _
         (λ t at h. still-step start.limit t es who event start.keeper.value k k' h (did.told (told_replay H t es) (told-world start es w same t at) h.holds)) is.told;
   })
@@ -173,6 +174,7 @@ module _ {K X : Type 0} (held : K → Option Contents) (H : List ℕ → Hash256
         is_faults = subst (λ n. min (faults start.keeper.value + n) (2 ^ 64 - 1) ≤ faults k')
             (ap (λ n. failures es + n) (sym (zero-add (cond {A = ℕ} (is_keeper (Some reply)) 1 0))) ∙ sym (failures-append es (e ∷ [])))
             (faults-step (is_keeper (Some reply)) (faults start.keeper.value) (failures es) (faults k) (faults k') is.is_faults did.caused);
+        silent = λ none. did.silent (is.silent none);
         told = if_told held start (λ t. IsHeld held H trail start.limit t es start.keeper.value k) _
             (λ t at h. held-step start.limit t es who event reply start.keeper.value k k' h (did.told (told_replay H t es) (told-world start es w same t at) h.holds)) is.told;
       }

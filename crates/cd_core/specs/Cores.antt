@@ -94,4 +94,5 @@ module _ {K : Type 0} (held : K → Option Contents) where
           pub limited : (1 ≤ start.limit) × (start.limit ≤ GREATEST_COUNT)
           pub is_batches : batches now ≡ batched journal (batches start.keeper.value)
           pub is_faults : min (faults start.keeper.value + failures journal) (2 ^ 64 - 1) ≤ faults now
+          pub silent : held start.keeper.value ≡ None → held now ≡ None
           pub told : IfSome (told_start start) (λ t. IsHeld start.limit t journal start.keeper.value now)

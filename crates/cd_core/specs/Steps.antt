@@ -68,11 +68,12 @@ module _ {K : Type 0} (held : K → Option Contents) (H : List ℕ → Hash256) 
         pub writable : IsWritable w'
         pub batched : batches k' ≡ (if batches_by answer then one_more (batches k) else batches k)
         pub caused : RisesOnly (is_keeper answer) (faults k) (faults k')
+        pub silent : held k ≡ None → held k' ≡ None
         pub told : (t : ToldWorld) → t.world ≡ w → Holds held H t k → DidTold limit t who event answer k k'
 
   -- one batch was made, which leads from the contents of a world to those of the next, whatever its trees are
   pub record Batches (batches : K → ℕ) (w : World) (next : ToldWorld → ToldWorld) (k k' : K) : Type 0 where
     pub change : Change
     pub applied : IsApplied held trail batches change k k'
-    pub leads : (t : ToldWorld) (contents : Contents) → t.world ≡ w → AreSoundContents H t contents
+    pub leads : (t : ToldWorld) (contents : Contents) → t.world ≡ w → held k ≡ Some contents → AreSoundContents H t contents
         → IsContentsOf H (shown (next t)) (changed change contents) × HasBytes (changed change contents)
