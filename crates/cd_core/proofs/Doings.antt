@@ -46,6 +46,9 @@ module _ {K X : Type 0} (held : K → Option Contents) (H : List ℕ → Hash256
   pub holds-still : (t : ToldWorld) (k k' : K) → KeepsHeld held trail batches k k' → Holds held H t k → Holds held H t k'
   holds-still t k k' keeps h = record { contents = h.contents; is_held = keeps.same_held ∙ h.is_held; are = h.are }
 
+  still-silent : (k k' : K) → KeepsHeld held trail batches k k' → held k ≡ None → held k' ≡ None
+  still-silent k k' keeps none = keeps.same_held ∙ none
+
   module _ (limit : ℕ) (w : World) (k k' : K) (who : Who) (event : Event X) where
     -- memory ran out
     pub memory-did : IsWritable w → KeepsHeld held trail batches k k' → faults k' ≡ faults k → Did held H trail batches faults limit w k who event None w k'
@@ -55,7 +58,7 @@ module _ {K X : Type 0} (held : K → Option Contents) (H : List ℕ → Hash256
       writable = ready;
       batched = keeps.same_batches;
       caused = stands false refl same;
-      silent = λ none. keeps.same_held ∙ none;
+      silent = still-silent k k' keeps;
       told = λ t is h. record { follows = tt; holds = holds-still t k k' keeps h; trailed = keeps.same_trail };
     }
 
@@ -72,7 +75,7 @@ module _ {K X : Type 0} (held : K → Option Contents) (H : List ℕ → Hash256
           writable = ready;
           batched = keeps.same_batches;
           caused = stands _ other same;
-          silent = λ none. keeps.same_held ∙ none;
+          silent = still-silent k k' keeps;
           told = λ t is h. record {
             follows = by t.world is (cell_refusal H limit t who.worker event);
             holds = holds-still t k k' keeps h;
@@ -94,7 +97,7 @@ module _ {K X : Type 0} (held : K → Option Contents) (H : List ℕ → Hash256
           writable = ready;
           batched = keeps.same_batches;
           caused = record { later = later; steady = λ e. absurd (true≢false e); rose = λ _. rose };
-          silent = λ none. keeps.same_held ∙ none;
+          silent = still-silent k k' keeps;
           told = λ t is h. record {
             follows = by t.world is (cell_refusal H limit t who.worker event);
             holds = holds-still t k k' keeps h;
@@ -117,7 +120,7 @@ module _ {K X : Type 0} (held : K → Option Contents) (H : List ℕ → Hash256
           writable = ready;
           batched = keeps.same_batches;
           caused = stands _ other same;
-          silent = λ none. keeps.same_held ∙ none;
+          silent = still-silent k k' keeps;
           told = λ t is h. record {
             follows = subst (λ o. FollowsBy H t.world o (entry_of who event (reply.Refused r))) (sym (cells t is h)) (by t.world is);
             holds = holds-still t k k' keeps h;
@@ -186,7 +189,7 @@ module _ {K X : Type 0} (held : K → Option Contents) (H : List ℕ → Hash256
       writable = subst IsWritable (sym arrived) (writable-after H w (entry_of who event answer) ready plainly asked);
       batched = keeps.same_batches ∙ ap (λ b. cond b (one_more (batches k)) (batches k)) (sym none);
       caused = stands _ (unfailed answer unlike) same;
-      silent = λ nothing. keeps.same_held ∙ nothing;
+      silent = still-silent k k' keeps;
       told = λ t at h.
           let facts = of_told t at in
           let so = h.are in
@@ -209,7 +212,7 @@ module _ {K X : Type 0} (held : K → Option Contents) (H : List ℕ → Hash256
       writable = subst IsWritable (sym arrived) (writable-after H w (entry_of who event answer) ready plainly asked);
       batched = applied.counted ∙ ap (λ b. cond b (one_more (batches k)) (batches k)) (sym one);
       caused = stands _ (unfailed answer unlike) same;
-      silent = λ nothing. applied.made ∙ ap (option_map (changed change)) nothing;
+      silent = λ none. applied.made ∙ ap (option_map (changed change)) none;
       told = λ t at h.
           let so = h.are in
           let facts = of_told t h.contents at h.is_held h.are in

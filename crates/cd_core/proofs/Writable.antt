@@ -1,5 +1,5 @@
 -- What is kept of a world for every keeper stays so.
-use Rattle.std.proofs.Common.{◌≡◌, ℕ, ◌≤◌, Bool, true, false, cond, List, [], ◌∷◌, ◌++◌, length, Option, Some, None, refl, sym, ap, ◌∙◌, subst, arith}
+use Rattle.std.proofs.Common.{◌≡◌, ℕ, ◌≤◌, Bool, true, false, cond, List, [], ◌∷◌, ◌++◌, length, Option, Some, None, refl, sym, ap, ◌∙◌, subst, arith, ⊎_elim}
 use Rattle.std.specs.Prelude.{◌⊎◌, map, filter, not, All, Contains, IsSome}
 use Rattle.std.specs.List.{AllByRecursion}
 use Rattle.std.specs.Option.{option_to_list}
@@ -21,7 +21,8 @@ use Rattle.cd_world.specs.Following.{Follows}
 use Rattle.cd_world.specs.Soundness.{IsStorable}
 use Rattle.cd_world.proofs.Orders.{Contains-filter, All-from_Contains, Contains-placed}
 use Rattle.cd_world.proofs.TidyWorlds.{tidy_after}
-use Rattle.std.proofs.lemmas.List.{All-contains, Contains-map}
+use Rattle.std.proofs.lemmas.List.Elements.{All-contains}
+use Rattle.cd_cell.proofs.Subtrees.{Contains-map}
 use Rattle.cd_core.specs.Cores.{IsWritable}
 
 -- each of some blocks can be written

@@ -1,5 +1,5 @@
 -- Inner: what the work of one call does to the keeper and the world, before its entry stands in the journal.
-use Rattle.std.specs.Prelude.{◌≡◌, ℕ, ◌≤◌, Bool, true, false, if◌then◌else◌, List, remove, Option, Some, None, IfSome, Result, Ok, Err}
+use Rattle.std.specs.Prelude.{◌≡◌, ℕ, ◌≤◌, Bool, true, false, if◌then◌else◌, List, Option, Some, None, IfSome, Result, Ok, Err}
 use Rattle.cd_base.specs.declared.hash.Hash256.{Hash256}
 use Rattle.cd_base.specs.Counts.{one_more}
 use Rattle.cd_keeper.specs.Contents.{Contents, Change, changed}
@@ -13,6 +13,8 @@ use Rattle.cd_event.specs.declared.faults.UnpinFault.TheVariants as unpin
 use Rattle.cd_event.specs.Replies.{entry_of}
 use Rattle.cd_event.specs.Turning.{is_keeper, RisesOnly}
 use Rattle.cd_world.specs.declared.world.World.{World}
+use Rattle.cd_world.specs.declared.world.PinRow.{PinRow}
+use Rattle.cd_world.specs.Changes.{without_pin}
 use Rattle.cd_world.specs.Machine.{after, makes_batch}
 use Rattle.cd_world.specs.Following.{Follows}
 use Rattle.cd_world.specs.Told.{ToldWorld, shown, told_after, FollowsTold}
@@ -26,9 +28,9 @@ abbrev pub batches_by : Option Reply → Bool
 batches_by None = false
 batches_by (Some reply) = makes_batch reply
 
--- the world without the block in a place
-abbrev pub told_without : ℕ → ToldWorld → ToldWorld
-told_without place t = record { world = record t.world { blocks = remove t.world.blocks place }; state = t.state }
+-- the world without a pin, and without the block that goes with it
+abbrev pub told_without : PinRow → ToldWorld → ToldWorld
+told_without row t = record { world = without_pin t.world row; state = t.state }
 
 -- whether the keeper failed a pin's end
 abbrev pub is_keeper_fault : {A : Type 0} → Result A UnpinFault → Bool

@@ -71,7 +71,7 @@ fn end_pin<K: Keeper, H: Hash32>(
     };
     let row = *row;
     if let Some(place) = collected_place(world, &row) {
-        drop_block::<K, H>(alloc, keeper, world, place)?;
+        drop_block::<K, H>(alloc, keeper, world, &row, place)?;
         world.blocks.remove(place);
         world.pins.drop_pin(row.worker, row.pin);
         return Ok(true);
