@@ -37,6 +37,7 @@ use Rattle.cd_core.specs.Steps.{Did}
 use Rattle.cd_core.specs.Storing.{IsOfWorld, zero_of, IsJudged, IsPlanMade}
 use Rattle.cd_core.proofs.Doings.{memory-did, refused-did, failed-did, clashed-did, batch-did}
 use Rattle.cd_core.proofs.Keepings.{keeps-on, applied-later}
+use Rattle.cd_core.proofs.Leading.{bytes-changed}
 use Rattle.cd_core.proofs.Stores.{stored-leads, sound-next}
 
 module _ {K X : Type 0} (held : K → Option Contents) (H : List ℕ → Hash256) (trail : K → Option (List Contents)) (batches faults : K → ℕ)
@@ -91,4 +92,4 @@ module _ {K X : Type 0} (held : K → Option Contents) (H : List ℕ → Hash256
         let added = planned t is holds in
         let fresh : block_at t.world id ≡ None = ap (λ x. block_at x id) is ∙ none_of w id (or_first _ _ free) in
         let next = sound-next H limit low t who event so.sound (ap (λ x. refusal_of H x who.worker event) is ∙ free) refl none (storable, whole) in
-        (none, (storable, whole), stored-leads H t id [] tops p so.sound next fresh added.0 plan added.1 made.change made.cells made.puts made.drops contents so.are, ?))
+        (none, (storable, whole), stored-leads H t id [] tops p so.sound next fresh added.0 plan added.1 made.change made.cells made.puts made.drops contents so.are, bytes-changed made.change contents so.bytes made.bytes))

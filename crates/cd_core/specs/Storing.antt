@@ -14,7 +14,7 @@ use Rattle.cd_event.specs.declared.refusal.Refusal.TheVariants as refusal
 use Rattle.cd_count.specs.declared.count_fault.CountFault.{CountFault}
 use Rattle.cd_count.specs.declared.count_fault.CountFault.TheVariants as count
 use Rattle.cd_count.specs.Changes.{Rows, IsCellBatch}
-use Rattle.cd_count.specs.PlanRows.{descr_puts}
+use Rattle.cd_count.specs.PlanRows.{descr_puts, AreOfBytes}
 
 -- ---- refusals
 
@@ -55,4 +55,5 @@ module _ {K : Type 0} (held : K → Option Contents) (trail : K → Option (List
     pub cells : IsCellBatch plan change
     pub puts : change.put_descs ≡ descr_puts (put ∷ [])
     pub drops : change.drop_descs ≡ map key_of gone
+    pub bytes : AreOfBytes change.put_cells
     pub applied : IsApplied held trail batches change k k'

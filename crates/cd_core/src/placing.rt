@@ -15,7 +15,7 @@ ghost use Rattle.cd_world.specs.Changes.{placed, stored, with_block};
 ghost use Rattle.cd_world.specs.Told.{ToldWorld, block_of, shown, storing_refusal, with_stored};
 ghost use Rattle.cd_world.specs.Soundness.{IsStorable};
 ghost use Rattle.cd_count.specs.Changes.{AreAdded, IsCellBatch};
-ghost use Rattle.cd_count.specs.PlanRows.{descr_puts};
+ghost use Rattle.cd_count.specs.PlanRows.{descr_puts, AreOfBytes};
 ghost use Rattle.cd_count.specs.Reading.{HasCountCause};
 ghost use Rattle.cd_core.specs.Cores.{Holds};
 ghost use Rattle.cd_core.specs.Storing.{IsJudged, IsPlanMade};
@@ -200,6 +200,7 @@ fn batch_with(
     ensures cells { IfOk result (λ batch. IsCellBatch plan batch) }
     ensures puts { IfOk result (λ batch. batch.put_descs ≡ descr_puts (descr.now ∷ [])) }
     ensures drops { IfOk result (λ batch. batch.drop_descs ≡ map key_of gone.items) }
+    ensures bytes { IfOk result (λ batch. AreOfBytes batch.put_cells) }
 {
     let mut puts = Vec::new(alloc);
     puts.push(copy_descr(alloc, descr)?)?;
