@@ -65,8 +65,8 @@ fn expire_by<K: Keeper, H: Hash32>(
 ) -> Result<u64, ExpireFault>
     requires kept { IsWritable world.old }
     ensures did { (limit : ℕ) → limit ≤ GREATEST_COUNT
-        → Did K.held H.digest_of K.trail K.batches K.faults limit world.old keeper.old who
-            (Expire {H} id.now) (expire_reply result) world.new keeper.new }
+        → Did K.held H.digest_of K.trail {X = H} K.batches K.faults limit world.old keeper.old who
+            (Expire id.now) (expire_reply result) world.new keeper.new }
 {
     let master = match master_at(alloc, world, id) {
         Ok(master) => master,

@@ -79,8 +79,8 @@ fn store_zero<K: Keeper, H: Hash32>(
     requires limit { limit ≤ GREATEST_COUNT }
     requires tops { MayName id.now tops.now }
     requires whole { Fits H.digest_of prepared.now.root prepared.now.cells [] }
-    ensures did { Did K.held H.digest_of K.trail K.batches K.faults limit world.old keeper.old who
-        (Zero {H} id.now tops.now prepared.now) (zero_reply result) world.new keeper.new }
+    ensures did { Did K.held H.digest_of K.trail {X = H} K.batches K.faults limit world.old keeper.old who
+        (Zero id.now tops.now prepared.now) (zero_reply result) world.new keeper.new }
     ensures stored { IfOk result (IsStored prepared.now) }
     ensures reads { K.reads keeper.new ≤ K.reads keeper.old + (5 * length prepared.now.cells + 1) }
 {
