@@ -1,3 +1,4 @@
+pub mod Adopted
 pub mod Apart
 pub mod Brought
 pub mod DescrTables

@@ -30,6 +30,10 @@ use Rattle.cd_count.specs.Changes.{AreDeadCells}
 use Rattle.cd_core.specs.declared.start.CoreStart.{CoreStart}
 use Rattle.cd_core.specs.Cores.{world_after, told_start}
 
+-- a count that stops at the last u64
+abbrev pub at_most_last : ℕ → ℕ
+at_most_last n = min n (2 ^ 64 - 1)
+
 module _ {K : Type 0} (holds : K → Option Contents) (H : List ℕ → Hash256) where
   module _ {X : Type 0} where
     -- what a call adds to the entries: one that follows the world before it, or none where it found no memory
@@ -62,10 +66,6 @@ module _ {K : Type 0} (holds : K → Option Contents) (H : List ℕ → Hash256)
     abbrev pub AreSeen : CoreStart K → List (Entry X) → List Hash256 → List (Option FaceView) → Type 0
     AreSeen start before hashes found = IfSome (told_start holds start)
         (λ t. found ≡ map (seen H (told_replay H t before)) hashes)
-
-    -- a count that stops at the last u64
-    abbrev pub at_most_last : ℕ → ℕ
-    at_most_last n = min n (2 ^ 64 - 1)
 
     -- how many blocks there are, how many cells these hold, and all references to the cells together
     pub record AreTotals (start : CoreStart K) (journal : List (Entry X)) (totals : Totals) : Type 0 where

@@ -127,8 +127,6 @@ fn batch_without(alloc: Global, plan: Plan, id: BlockId) -> Result<Batch, Memory
     ensures drops { IfOk result (λ batch. batch.drop_descs ≡ key_of id ∷ []) }
 {
     let mut ids = Vec::new(alloc);
-    if ids.push(id).is_err() {
-        return Err(Memory);
-    }
+    ids.push(id)?;
     plan.into_batch(alloc, Vec::new(alloc), ids)
 }

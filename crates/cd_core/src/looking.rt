@@ -64,8 +64,8 @@ fn look_under<K: Keeper, H: Hash32>(
     hashes: &[Hash256],
 ) -> Result<Vec<Option<Face>>, LookFault>
     requires kept { IsWritable world.now }
-    ensures did { (limit : ℕ) → Did K.held H.digest_of K.trail K.batches K.faults limit world.now keeper.old who
-        (Look {H} pin (length hashes.now)) (look_reply result) world.now keeper.new }
+    ensures did { (limit : ℕ) → Did K.held H.digest_of K.trail {X = H} K.batches K.faults limit world.now keeper.old who
+        (Look pin (length hashes.now)) (look_reply result) world.now keeper.new }
     ensures reads { K.reads keeper.new ≤ K.reads keeper.old + length hashes.now }
     ensures found { IfOk result (λ found. length found.items ≡ length hashes.now) }
     ensures good { IfOk result (λ found. AreGood found.items) }

@@ -58,8 +58,8 @@ fn end_pin<K: Keeper, H: Hash32>(
 ) -> Result<bool, UnpinFault>
     requires kept { IsWritable world.old }
     ensures did { (limit : ℕ) → limit ≤ GREATEST_COUNT
-        → Did K.held H.digest_of K.trail K.batches K.faults limit world.old keeper.old who
-            (Unpin {H} pin) (unpin_reply result) world.new keeper.new }
+        → Did K.held H.digest_of K.trail {X = H} K.batches K.faults limit world.old keeper.old who
+            (Unpin pin) (unpin_reply result) world.new keeper.new }
     ensures quiet { is_pin_collected world.old (pin_at world.old who.worker pin) ≡ false
         → K.reads keeper.new ≡ K.reads keeper.old }
     ensures reads { (t : ToldWorld) (dead : List Tree) → t.world ≡ world.old → Holds K.held H.digest_of t keeper.old
