@@ -11,6 +11,7 @@ use Rattle.cd_record.specs.declared.limits.TheConstants.{GREATEST_COUNT}
 use Rattle.cd_nodes.specs.Plans as plans
 use Rattle.cd_count.specs.declared.rows.Row.{Row}
 use Rattle.cd_count.specs.Changes.{Rows}
+use Rattle.cd_base.specs.Numbers.{IsBytes}
 
 abbrev pub row_of : Row → plans.Row FaceView
 row_of r = record { stored = r.stored; now = r.count; face = r.face }
@@ -33,3 +34,7 @@ AreRowsFit rows = AllByRecursion (λ e. IsRowFit e.1) rows
 -- the puts of some descriptions
 abbrev pub descr_puts : List Descr → List (List ℕ × List ℕ)
 descr_puts ds = map (λ d. (key_of d.id, descr_text d)) ds
+
+-- each value is a list of bytes
+abbrev pub AreOfBytes : List (List ℕ × List ℕ) → Type 0
+AreOfBytes es = AllByRecursion (λ e. IsBytes e.1) es

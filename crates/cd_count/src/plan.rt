@@ -1,5 +1,6 @@
 ghost use Rattle.std.specs.Prelude.{◌≡◌, ℕ, ◌+◌, ◌*◌, ◌≤◌, ◌++◌, List, [], map, length, IfSome, IfOk, IfErr, OnOk};
 ghost use Rattle.cd_base.specs.declared.hash.Hash256.{Hash256};
+ghost use Rattle.cd_base.specs.Numbers.{IsBytes};
 ghost use Rattle.cd_cell.specs.Tree.{Tree};
 ghost use Rattle.cd_cell.specs.Export.{AreClashFree};
 ghost use Rattle.cd_keeper.specs.Keeping.{KeepsHeld};
@@ -27,7 +28,7 @@ ghost use Rattle.cd_keeper.specs.Shown.{entries_of, hash_bytes, desc_bytes};
 ghost use Rattle.cd_nodes.specs.Plans as plans;
 ghost use Rattle.cd_record.specs.RecordText.{record_text};
 ghost use Rattle.cd_count.specs.Changes.{states, rep_bytes, AreTogether, AreCounted, AreAdded, AreDeadCells, IsCellBatch};
-ghost use Rattle.cd_count.specs.PlanRows.{row_of, rows_of, IsRowFit, AreRowsFit, descr_puts};
+ghost use Rattle.cd_count.specs.PlanRows.{row_of, rows_of, IsRowFit, AreRowsFit, AreOfBytes, descr_puts};
 
 use crate::adding::{add_rows, check_limit, clash_of, list_cells};
 use crate::count_fault::CountFault;
@@ -86,6 +87,7 @@ impl Plan {
         requires once { IsDistinct same_key (map key_of drop_descs.items ++ keys_of (descr_puts put_descs.items)) }
         ensures once { plans.HasNoKeyTwice (slice_cmp nat_cmp) self }
         ensures cells { IfOk result (λ batch. IsCellBatch self batch) }
+        ensures bytes { IfOk result (λ batch. AreOfBytes batch.put_cells) }
         ensures puts { IfOk result (λ batch. batch.put_descs ≡ descr_puts put_descs.items) }
         ensures drops { IfOk result (λ batch. batch.drop_descs ≡ map key_of drop_descs.items) }
     {
@@ -110,6 +112,8 @@ fn change_cells(
         ≡ entries_of hash_bytes puts.old.items ++ plans.puts record_text (rows_of rows.now.entries)) }
     ensures drops { OnOk result (map hash_bytes drops.new.items
         ≡ map hash_bytes drops.old.items ++ plans.drops record_text (rows_of rows.now.entries)) }
+    ensures bytes { OnOk result (AreOfBytes (entries_of hash_bytes puts.old.items)
+        → AreOfBytes (entries_of hash_bytes puts.new.items)) }
     ensures once { plans.HasNoKeyTwice (slice_cmp nat_cmp) (rows_of rows.now.entries) }
 {
     for (hash, row) in rows.iter() {
@@ -131,6 +135,8 @@ fn change_cell(
         ++ option_to_list (plans.put_entry record_text (hash.now.0, row_of row.now))) }
     ensures drops { OnOk result (map hash_bytes drops.new.items ≡ map hash_bytes drops.old.items
         ++ option_to_list (plans.drop_entry record_text (hash.now.0, row_of row.now))) }
+    ensures bytes { OnOk result (AreOfBytes (entries_of hash_bytes puts.old.items)
+        → AreOfBytes (entries_of hash_bytes puts.new.items)) }
 {
     if row.count == 0 {
         if row.stored.is_some() {
@@ -141,8 +147,17 @@ fn change_cell(
     if row.stored == Some(row.count) {
         return Ok(());
     }
-    puts.push((*hash, encode_cell(alloc, row.count, &row.face)?))?;
+    let text = encode_cell(alloc, row.count, &row.face)?;
+    tell_bytes(text.as_slice());
+    puts.push((*hash, text))?;
     Ok(())
+}
+
+/// Tells that bytes are bytes, and does nothing.
+fn tell_bytes(bytes: &[u8])
+    ensures { IsBytes bytes.now }
+{
+    let _ = bytes.len();
 }
 
 /// The keys and texts of some descriptions.

@@ -67,6 +67,17 @@ impl<H: Hash32> Journal<H> {
         }
     }
 
+    /// Puts an entry into the place of the last one, if there is one.
+    pub fn put_last(&mut self, entry: Entry<H>)
+        ensures { (front : List (Entry H)) (last : Entry H) → self.old ≡ front ++ last ∷ []
+            → self.new ≡ front ++ entry ∷ [] }
+    {
+        let count = self.entries.len();
+        if count > 0 {
+            self.entries[count - 1] = entry;
+        }
+    }
+
     /// The entries in place.
     pub fn as_slice(&self) -> &[Entry<H>]
         ensures { result.now ≡ self.now }

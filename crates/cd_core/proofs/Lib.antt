@@ -1,0 +1,14 @@
+pub mod Adopted
+pub mod Apart
+pub mod Brought
+pub mod DescrTables
+pub mod Doings
+pub mod Journaling
+pub mod Keepings
+pub mod Leading
+pub mod Passed
+pub mod Planned
+pub mod Stores
+pub mod Unpinned
+pub mod Writable
+pub mod ZeroDid

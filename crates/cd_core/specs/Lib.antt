@@ -1,0 +1,5 @@
+pub mod Cores
+pub mod Effects
+pub mod Passing
+pub mod Steps
+pub mod Storing
