@@ -50,8 +50,8 @@ module _ {K X : Type 0} (held : K → Option Contents) (H : List ℕ → Hash256
         is_batches = ap batches (sym keeper);
         is_faults = let same = ap faults keeper in omega (arith, same);
         silent = λ e. ap held (sym keeper) ∙ e;
-        told = subst (λ (v : World). IfSome (option_map (λ contents. told_in contents v) (held start.keeper.value)) (λ t. IsHeld held H trail start.limit t [] start.keeper.value k)) (sym at)
-            (subst (λ (x : K). IfSome (option_map (λ contents. told_in contents (opened blocks)) (held x)) (λ t. IsHeld held H trail start.limit t [] x k)) (sym keeper)
+        told = subst (λ (v : World). IfSome (option_map (λ contents. told_in contents v) (held start.keeper.value)) (λ t. IsHeld held H {X = X} trail start.limit t [] start.keeper.value k)) (sym at)
+            (subst (λ (x : K). IfSome (option_map (λ contents. told_in contents (opened blocks)) (held x)) (λ t. IsHeld held H {X = X} trail start.limit t [] x k)) (sym keeper)
             (by (held k) refl told));
       })
     where
@@ -59,7 +59,7 @@ module _ {K X : Type 0} (held : K → Option Contents) (H : List ℕ → Hash256
       at = value ∙ is
 
       by : (o : Option Contents) → held k ≡ o → IfSome o (λ contents. AreSoundContents H (told_in contents (opened blocks)) contents)
-          → IfSome (option_map (λ contents. told_in contents (opened blocks)) o) (λ t. IsHeld held H trail start.limit t [] k k)
+          → IfSome (option_map (λ contents. told_in contents (opened blocks)) o) (λ t. IsHeld held H {X = X} trail start.limit t [] k k)
       by None said so = tt
       by (Some contents) said so = record {
         follow = tt;

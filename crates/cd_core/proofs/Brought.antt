@@ -1,5 +1,5 @@
 -- What comes with a block that is stored: its tree, the listed cells of it, and the world that has it.
-use Rattle.std.proofs.Common.{◌≡◌, ℕ, zero, suc, ◌<◌, ◌≤◌, Bool, true, false, cond, List, [], ◌∷◌, ◌++◌, length, map, take, get_or, flat_map, Option, Some, None, Contains, refl, sym, ap, ap₂, ◌∙◌, subst, subst₂, inl, inr, ⊎_elim, ◌⊎◌, arith}
+use Rattle.std.proofs.Common.{◌≡◌, ℕ, zero, suc, ◌<◌, ◌≤◌, Bool, true, false, cond, List, [], ◌∷◌, ◌++◌, length, length-take, map, take, get_or, flat_map, Option, Some, None, Contains, refl, sym, ap, ap₂, ◌∙◌, subst, subst₂, inl, inr, ⊎_elim, ◌⊎◌, arith}
 use Rattle.std.specs.Prelude.{IsSome, is_some, ◌||◌}
 use Rattle.std.specs.List.{list_any}
 use Rattle.std.specs.Ordering.{is_lt}
@@ -45,7 +45,7 @@ use Rattle.cd_count.proofs.Changes.{block_comes}
 
 pub map-same : {A B : Type 0} (f g : A → B) (xs : List A) → ((x : A) → Contains xs x → f x ≡ g x) → map f xs ≡ map g xs
 map-same f g [] same = refl
-map-same f g (x ∷ xs) same = ap₂ (λ (y : B) (ys : List B). y ∷ ys) (same x (Contains-first x xs)) (map-same f g xs (λ y h. same y (Contains-later x xs y h)))
+map-same {B = B} f g (x ∷ xs) same = ap₂ (λ (y : B) (ys : List B). y ∷ ys) (same x (Contains-first x xs)) (map-same f g xs (λ y h. same y (Contains-later x xs y h)))
 
 -- a block in its place stands among the others
 pub record IsPlaced (d : Descr) (xs : List Descr) : Type 0 where
@@ -215,7 +215,7 @@ module _ (H : List ℕ → Hash256) where
 
     reached : (n k : ℕ) → k < n → k < length p.cells → Contains (subtrees new) (get_or listed k no_tree)
     reached zero k low h = absurd (omega arith)
-    reached (suc n) k low h = by (same_info info p.root) refl (let valid = storable.valid in valid.reached k h)
+    reached (suc n) k low h = by (λ j less few. reached n j less few) (same_info info p.root) refl (let valid = storable.valid in valid.reached k h)
       where
         s : Tree
         s = get_or listed k no_tree
@@ -223,17 +223,17 @@ module _ (H : List ℕ → Hash256) where
         info : ChildInfo
         info = info_of_new H (listed_at p.cells k)
 
-        by : (b : Bool) → same_info info p.root ≡ b → (b || list_any (λ (c : NewCell). list_any (same_info info) c.face.kids) (take k p.cells)) ≡ true → Contains (subtrees new) (get_or listed k no_tree)
-        by true e passes =
+        by : ((j : ℕ) → j < n → j < length p.cells → Contains (subtrees new) (get_or listed j no_tree)) → (b : Bool) → same_info info p.root ≡ b → (b || list_any (λ (c : NewCell). list_any (same_info info) c.face.kids) (take k p.cells)) ≡ true → Contains (subtrees new) (get_or listed k no_tree)
+        by before true e passes =
             let same = one-tree s new (in-listed s (at-listed k h)) (in-new new (subtree-itself new))
             (info-at k h ∙ (same_info-Decides info p.root).0 e ∙ sym (info-made H olds good-old p.root p.cells storable.valid fits)) in
             subst (Contains (subtrees new)) (sym same) (subtree-itself new)
-        by false e passes =
+        by before false e passes =
             let from = list_any-Contains (λ (c : NewCell). list_any (same_info info) c.face.kids) (take k p.cells) passes in
             let kid = list_any-Contains (same_info info) (from.0).face.kids from.2 in
             let at = taken-at k from.0 from.1 in
             let above : Tree = get_or listed at.0 no_tree in
-            let there_above : Contains (subtrees new) above = reached n at.0 (omega (arith, at.1)) at.2 in
+            let there_above : Contains (subtrees new) above = before at.0 (omega (arith, at.1)) at.2 in
             let face : face_of H above ≡ (from.0).face = face-at at.0 at.2 ∙ ap (λ (c : NewCell). c.face) at.3 in
             let kids : (from.0).face.kids ≡ map (info_of H) (children above) = sym (ap (λ (f : FaceView). f.kids) face) ∙ kids-face_of H above in
             let child = Contains-map (info_of H) (children above) kid.0 (subst (λ (ks : List ChildInfo). Contains ks kid.0) kids kid.1) in

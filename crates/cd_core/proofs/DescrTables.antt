@@ -98,7 +98,7 @@ look-placed d [] q apart = by (same_key q (key d))
     by : (b : Bool) → cond b (Some (descr_text d)) None ≡ option_or (cond b (Some (descr_text d)) None) None
     by true = refl
     by false = refl
-look-placed d (x ∷ xs) q apart = by (is_lt (id_cmp d.id x.id))
+look-placed d (x ∷ xs) q apart = by (look-placed d xs q (λ y h. apart y (Contains-later x xs y h))) (is_lt (id_cmp d.id x.id))
   where
     first : (b : Bool) → cond b (Some (descr_text d)) (look (x ∷ xs) q) ≡ option_or (cond b (Some (descr_text d)) None) (look (x ∷ xs) q)
     first true = refl
@@ -110,10 +110,10 @@ look-placed d (x ∷ xs) q apart = by (is_lt (id_cmp d.id x.id))
     swap true false e f = refl
     swap false b e f = refl
 
-    by : (b : Bool) → look (cond b (d ∷ x ∷ xs) (x ∷ placed d xs)) q ≡ option_or (look (d ∷ []) q) (look (x ∷ xs) q)
-    by true = first (same_key q (key d))
-    by false =
-        ap (λ (o : Option (List ℕ)). cond (same_key q (key x)) (Some (descr_text x)) o) (look-placed d xs q (λ y h. apart y (Contains-later x xs y h)))
+    by : look (placed d xs) q ≡ option_or (look (d ∷ []) q) (look xs q) → (b : Bool) → look (cond b (d ∷ x ∷ xs) (x ∷ placed d xs)) q ≡ option_or (look (d ∷ []) q) (look (x ∷ xs) q)
+    by rest true = first (same_key q (key d))
+    by rest false =
+        ap (λ (o : Option (List ℕ)). cond (same_key q (key x)) (Some (descr_text x)) o) rest
         ∙ swap (same_key q (key d)) (same_key q (key x)) refl refl
 
 -- blocks that go

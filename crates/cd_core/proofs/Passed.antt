@@ -73,18 +73,21 @@ module _ (w : World) (m : Descr) where
   -- of what is left over those change that have a pin
   twice : (xs : List Descr) → filter (is_expired m) (filter (λ d. not (goes d)) xs) ≡ filter (is_left w m) xs
   twice [] = refl
-  twice (x ∷ xs) = by (is_expired m x) (is_pinned w.pins x.id) refl
+  twice (x ∷ xs) = by (is_expired m x) (is_pinned w.pins x.id) refl (twice xs)
     where
-      kept : (e : Bool) → is_expired m x ≡ e → filter (is_expired m) (x ∷ filter (λ d. not (goes d)) xs) ≡ cond e (x ∷ filter (is_left w m) xs) (filter (is_left w m) xs)
-      kept true e = ap (λ b. cond b (x ∷ filter (is_expired m) (filter (λ d. not (goes d)) xs)) (filter (is_expired m) (filter (λ d. not (goes d)) xs))) e ∙ ap (λ (ys : List Descr). x ∷ ys) (twice xs)
-      kept false e = ap (λ b. cond b (x ∷ filter (is_expired m) (filter (λ d. not (goes d)) xs)) (filter (is_expired m) (filter (λ d. not (goes d)) xs))) e ∙ twice xs
+      rest_of : List Descr
+      rest_of = filter (is_expired m) (filter (λ d. not (goes d)) xs)
 
-      by : (e p : Bool) → is_expired m x ≡ e
+      kept : rest_of ≡ filter (is_left w m) xs → (e : Bool) → is_expired m x ≡ e → filter (is_expired m) (x ∷ filter (λ d. not (goes d)) xs) ≡ cond e (x ∷ filter (is_left w m) xs) (filter (is_left w m) xs)
+      kept rest true e = ap (λ b. cond b (x ∷ rest_of) rest_of) e ∙ ap (λ (ys : List Descr). x ∷ ys) rest
+      kept rest false e = ap (λ b. cond b (x ∷ rest_of) rest_of) e ∙ rest
+
+      by : (e p : Bool) → is_expired m x ≡ e → rest_of ≡ filter (is_left w m) xs
           → filter (is_expired m) (cond (not (e && not p)) (x ∷ filter (λ d. not (goes d)) xs) (filter (λ d. not (goes d)) xs)) ≡ cond (e && p) (x ∷ filter (is_left w m) xs) (filter (is_left w m) xs)
-      by true true e = kept true e
-      by true false e = twice xs
-      by false true e = kept false e
-      by false false e = kept false e
+      by true true e rest = kept rest true e
+      by true false e rest = rest
+      by false true e rest = kept rest false e
+      by false false e rest = kept rest false e
 
   apart-filter : (p : Descr → Bool) (xs : List Descr) → HaveKeysApart xs → HaveKeysApart (filter p xs)
   apart-filter p [] apart = tt

@@ -70,3 +70,8 @@ module _ (H : List ℕ → Hash256) (w : World) (id : BlockId) (parents tops : L
         → (news : List Tree) × AreAdded H (shown t) (shown grown) (come ∷ []) news plan
     planned plan none added =
         (_, added (shown grown) come _ (comes none) (rep-come H t sound id parents tops p storable (fresh-in t is) (there-in t is) fits none))
+
+-- what is said of a result's value, by what is known of the result
+pub by-ok : {A E : Type 0} (r : Result A E) (P Q : A → Type 0) (C : Result A E → Type 0) → C r → ((x : A) → C (Ok x) → P x → Q x) → IfOk r P → IfOk r Q
+by-ok (Ok x) P Q C c f p = f x c p
+by-ok (Err e) P Q C c f p = tt

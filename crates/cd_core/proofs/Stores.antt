@@ -3,6 +3,7 @@ use Rattle.std.proofs.Common.{◌≡◌, ℕ, ◌≤◌, Bool, true, false, cond
 use Rattle.std.specs.Prelude.{Result, Ok, Err, is_some}
 use Rattle.std.specs.Option.{option_or}
 use Rattle.std.specs.List.{IsDistinct}
+use Rattle.std.specs.Map.{keys_of}
 use Rattle.std.proofs.lemmas.Bool.{true≢false}
 use Rattle.std.proofs.lemmas.List.Elements.{All-contains}
 use Rattle.cd_base.specs.declared.hash.Hash256.{Hash256}
@@ -31,12 +32,18 @@ use Rattle.cd_world.specs.Following.{FollowsBy}
 use Rattle.cd_world.specs.Told.{ToldWorld, shown, block_of, with_stored, cell_refusal, storing_refusal, IsSound, IsSoundBlock, FollowsTold, told_after}
 use Rattle.cd_world.specs.Soundness.{IsAsked}
 use Rattle.cd_world.proofs.SoundWorlds.{stays_sound}
+use Rattle.cd_world.proofs.Orders.{Contains-placed_new}
 use Rattle.cd_world.proofs.TidyWorlds.{found-there}
 use Rattle.cd_count.specs.Changes.{Rows, IsCellBatch, AreAdded, AreCounted, DescsLead}
 use Rattle.cd_count.specs.PlanRows.{descr_puts}
 use Rattle.cd_count.specs.SoundContents.{AreSoundContents}
 use Rattle.cd_count.proofs.Changes.{leads}
 use Rattle.cd_core.proofs.DescrTables.{key, look, look-placed, keys-apart, descs-lead}
+
+-- one key stands once
+one-key : (d : Descr) → IsDistinct same_key (keys_of (descr_puts (d ∷ [])))
+unfolding IsDistinct
+one-key d = (tt, tt)
 
 module _ (H : List ℕ → Hash256) where
   -- blocks that are there have other keys than a new one
@@ -62,7 +69,7 @@ module _ (H : List ℕ → Hash256) where
       d = stored id parents tops p
 
       descs : DescsLead H change (shown t) (shown v)
-      descs = descs-lead H t v change (d ∷ []) [] (sound-block t sound) (sound-block v sound_v) puts drops (tt, tt) (λ q. look-placed d t.world.blocks q (fresh-keys t.world d fresh ? (λ x h. let block = sound-block t sound x h in block.is)))
+      descs = descs-lead H t v change (d ∷ []) [] (sound-block t sound) (sound-block v sound_v) puts drops (one-key d) (λ q. look-placed d t.world.blocks q (fresh-keys t.world d fresh (let block = sound-block v sound_v d (Contains-placed_new d t.world.blocks) in block.is) (λ x h. let block = sound-block t sound x h in block.is)))
 
   -- what is asked of a stored state leads from a sound world to a sound one
   pub sound-next : {X : Type 0} (limit : ℕ) → limit ≤ GREATEST_COUNT → (t : ToldWorld) (who : Who) (event : Event X) → IsSound H t → refusal_of H t.world who.worker event ≡ None → reply_of t.world who.worker event ≡ reply.Stored

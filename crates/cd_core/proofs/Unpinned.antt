@@ -1,8 +1,8 @@
 -- A pin ends: what becomes of the world, of the keeper's contents, and what the plan is of.
 use Rattle.std.proofs.Common.{◌≡◌, ℕ, ◌≤◌, Bool, true, false, cond, not, List, [], ◌∷◌, map, Option, Some, None, Contains, refl, sym, ap, ◌∙◌, subst}
-use Rattle.std.specs.Prelude.{◌||◌, ◌&&◌, slice_get, IfSome}
+use Rattle.std.specs.Prelude.{◌||◌, ◌&&◌, slice_get, IfSome, Result, Ok, Err}
 use Rattle.std.specs.Option.{option_to_list}
-use Rattle.std.specs.List.{filter, list_any}
+use Rattle.std.specs.List.{filter, list_any, IsDistinct}
 use Rattle.std.proofs.lemmas.Bool.{true≢false}
 use Rattle.std.proofs.lemmas.List.Elements.{All-contains}
 use Rattle.cd_base.specs.declared.hash.Hash256.{Hash256}
@@ -31,7 +31,11 @@ use Rattle.cd_count.specs.Changes.{states, cell_graph, rep_bytes, Rows, AreToget
 use Rattle.cd_count.specs.PlanRows.{AreOfBytes, descr_puts}
 use Rattle.cd_count.proofs.Changes.{leads}
 use Rattle.cd_core.specs.Cores.{IsWritable}
-use Rattle.cd_core.specs.Steps.{told_without}
+use Rattle.cd_event.specs.Turning.{RisesOnly}
+use Rattle.cd_count.specs.declared.count_fault.CountFault.{CountFault}
+use Rattle.cd_count.specs.declared.count_fault.CountFault.TheVariants as count
+use Rattle.cd_count.specs.Reading.{IsCaused}
+use Rattle.cd_core.specs.Steps.{told_without, of_count, is_keeper_fault, IsOutsideFault}
 use Rattle.cd_core.proofs.Apart.{goes-at, keys-apart-in}
 use Rattle.cd_core.proofs.DescrTables.{key, look, look-filtered, descs-lead}
 use Rattle.cd_core.proofs.Leading.{bytes-changed}
@@ -46,14 +50,18 @@ filter-all p (x ∷ xs) e = elim (p x) as (λ b. (b || list_any p xs) ≡ false 
 ] e
 
 -- the world after the end of a pin
-pub unpinned : {X : Type 0} (w : World) (worker pin : ℕ) (row : PinRow) → pin_at w worker pin ≡ Some row → moved {X = X} w worker (Unpin pin) ≡ without_pin w row
-unpinned w worker pin row at = ap (λ o. without_pins w (option_to_list o)) at
+pub unpinned : (X : Type 0) (w : World) (worker pin : ℕ) (row : PinRow) → pin_at w worker pin ≡ Some row → moved {X = X} w worker (Unpin pin) ≡ without_pin w row
+unpinned X w worker pin row at = ap (λ o. without_pins w (option_to_list o)) at
 
 -- where no block goes
 pub still-blocks : (w : World) (row : PinRow) → is_collected w row ≡ false → without_pin w row ≡ record w { pins = pins_without row w.pins }
 still-blocks w row none = ap (λ (bs : List Descr). record w { blocks = bs; pins = pins_without row w.pins }) (filter-all (goes_with w row) w.blocks none)
 
 -- ---- a block goes
+
+no-keys : IsDistinct same_key []
+unfolding IsDistinct
+no-keys = tt
 
 filter-same : {A : Type 0} (p q : A → Bool) → ((x : A) → p x ≡ q x) → (xs : List A) → filter p xs ≡ filter q xs
 filter-same p q same [] = refl
@@ -103,7 +111,7 @@ module _ (H : List ℕ → Hash256) (t : ToldWorld) (row : PinRow) where
       let u = told_without row t in
       let one = goes-at t.world row place d ready at goes_d in
       let descs : DescsLead H change (shown t) (shown u) =
-          descs-lead H t u change [] (key_of d.id ∷ []) (sound-block sound) (sound-left sound) puts drops tt
+          descs-lead H t u change [] (key_of d.id ∷ []) (sound-block sound) (sound-left sound) puts drops no-keys
           (λ q. look-filtered goes t.world.blocks q (keys-apart-in t.world ready)
           ∙ ap (λ (xs : List Descr). cond (list_any (same_key q) (map key xs)) None (look t.world.blocks q)) one.0) in
       (leads H (shown t) (shown t) (shown u) [] (block_of t d ∷ []) [] dead rows counted change cells descs contents are,
@@ -146,3 +154,17 @@ of-some {A} o x P is h = let Q : Option A → Type 0 = λ y. IfSome y P in subst
 -- the states of a sound world are free of clashes
 pub clear-shown : (H : List ℕ → Hash256) (t : ToldWorld) → IsSound H t → (let all = shown t in AreClashFree H (states all.blocks))
 clear-shown H t sound = subst (AreClashFree H) (sym (states-are t t.world.blocks)) sound.clear
+
+-- ---- a plan's fault
+
+pub outside-unpin : (fault : CountFault) → IsOutsideFault (Err (of_count fault))
+outside-unpin count.Keeper = tt
+outside-unpin count.Memory = tt
+outside-unpin (count.Clash hash stored offered) = tt
+outside-unpin (count.CountFull hash n) = tt
+
+pub caused-unpin : (fault : CountFault) (before now : ℕ) → before ≤ now → IsCaused before now fault → RisesOnly (is_keeper_fault (Err (of_count fault))) before now
+caused-unpin count.Keeper before now later caused = record { later = later; steady = λ e. absurd (true≢false e); rose = λ _. caused }
+caused-unpin count.Memory before now later caused = record { later = later; steady = λ _. caused; rose = λ e. absurd (true≢false (sym e)) }
+caused-unpin (count.Clash hash stored offered) before now later caused = record { later = later; steady = λ _. caused; rose = λ e. absurd (true≢false (sym e)) }
+caused-unpin (count.CountFull hash n) before now later caused = record { later = later; steady = λ _. caused; rose = λ e. absurd (true≢false (sym e)) }

@@ -40,7 +40,7 @@ use Rattle.cd_core.proofs.Keepings.{keeps-on, applied-later}
 use Rattle.cd_core.proofs.Leading.{bytes-changed}
 use Rattle.cd_core.proofs.Stores.{stored-leads, sound-next}
 
-module _ {K X : Type 0} (held : K → Option Contents) (H : List ℕ → Hash256) (trail : K → Option (List Contents)) (batches faults : K → ℕ)
+module _ {K : Type 0} (X : Type 0) (held : K → Option Contents) (H : List ℕ → Hash256) (trail : K → Option (List Contents)) (batches faults : K → ℕ)
     (limit : ℕ) (w : World) (k : K) (who : Who) (id : BlockId) (tops : List BlockId) (p : PreparedView) (ready : IsWritable w) where
   abbrev event : Event X
   event = Zero id tops p

@@ -21,6 +21,8 @@ use Rattle.cd_world.specs.Told.{ToldWorld, shown, told_after, FollowsTold}
 use Rattle.cd_world.specs.Image.{IsContentsOf}
 use Rattle.cd_world.specs.ToldTrees.{HasBytes}
 use Rattle.cd_count.specs.SoundContents.{AreSoundContents}
+use Rattle.cd_count.specs.declared.count_fault.CountFault.{CountFault}
+use Rattle.cd_count.specs.declared.count_fault.CountFault.TheVariants as count
 use Rattle.cd_core.specs.Cores.{IsWritable, Holds}
 
 -- whether an answer makes a batch
@@ -36,6 +38,13 @@ told_without row t = record { world = without_pin t.world row; state = t.state }
 abbrev pub is_keeper_fault : {A : Type 0} → Result A UnpinFault → Bool
 is_keeper_fault (Err unpin.Keeper) = true
 is_keeper_fault _ = false
+
+-- a plan's fault as that of a pin's end; where no block comes there is no clash and no full count
+abbrev pub of_count : CountFault → UnpinFault
+of_count count.Keeper = unpin.Keeper
+of_count count.Memory = unpin.Memory
+of_count (count.Clash hash stored offered) = unpin.Memory
+of_count (count.CountFull hash n) = unpin.Memory
 
 -- no pin is missing
 abbrev pub IsOutsideFault : {A : Type 0} → Result A UnpinFault → Type 0

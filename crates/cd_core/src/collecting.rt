@@ -1,9 +1,9 @@
 //! Blocks that go as a pin ends.
-ghost use Rattle.std.specs.Prelude.{◌≡◌, ◌≤◌, ◌<◌, ◌+◌, ◌*◌, ◌∷◌, [], ℕ, List, length, map, filter, slice_get, false, true, IfSome, Some, None, IfOk, OnOk, OnErr};
+ghost use Rattle.std.specs.Prelude.{◌≡◌, ◌≤◌, ◌<◌, ◌+◌, ◌*◌, ◌∷◌, [], ℕ, List, length, map, filter, slice_get, not, ◌&&◌, false, true, IfSome, Some, None, IfOk, OnOk, OnErr};
 ghost use Rattle.cd_block.specs.declared.description.Descr.{Descr};
 ghost use Rattle.cd_cell.specs.Tree.{Tree};
 ghost use Rattle.cd_keeper.specs.Keeping.{KeepsHeld};
-ghost use Rattle.cd_world.specs.Standing.{is_pinned};
+ghost use Rattle.cd_world.specs.Standing.{is_pin, names_block, is_pinned};
 ghost use Rattle.cd_world.specs.Changes.{pins_without, goes_with, is_collected};
 ghost use Rattle.cd_world.specs.Told.{ToldWorld, block_of, shown};
 ghost use Rattle.cd_world.specs.World.{Block};
@@ -12,7 +12,7 @@ ghost use Rattle.cd_count.specs.Changes.{AreDeadCells, AreTogether, AreCounted, 
 ghost use Rattle.cd_count.specs.PlanRows.{AreOfBytes};
 ghost use Rattle.cd_event.specs.Turning.{RisesOnly};
 ghost use Rattle.cd_core.specs.Cores.{IsWritable, Holds};
-ghost use Rattle.cd_core.specs.Steps.{Batches, told_without, is_keeper_fault, IsOutsideFault};
+ghost use Rattle.cd_core.specs.Steps.{Batches, told_without, is_keeper_fault, IsOutsideFault, of_count};
 ghost use Rattle.cd_block.specs.Block.{IsBlockId, key_of};
 ghost use Rattle.cd_count.specs.Changes.{IsCellBatch};
 
@@ -33,7 +33,14 @@ fn is_shared(world: &World, row: &PinRow) -> bool
         .pins
         .as_slice()
         .iter()
-        .any(|r| !(r.pin == row.pin && r.worker == row.worker) && is_same_id(&r.block, &row.block))
+        .any(|other| shares_block(row, other))
+}
+
+/// Whether another pin is on the block of this one.
+fn shares_block(row: &PinRow, other: &PinRow) -> bool
+    ensures { result ≡ not (is_pin row.now.worker row.now.pin other.now) && names_block row.now.block other.now }
+{
+    !(other.pin == row.pin && other.worker == row.worker) && is_same_id(&other.block, &row.block)
 }
 
 /// The place of the block that goes with the end of this pin.
@@ -113,8 +120,16 @@ fn plan_without<K: Keeper, H: Hash32>(
     let roots = [*root];
     match plan_drop(alloc, keeper, Plan::empty(alloc), &roots) {
         Ok(plan) => Ok(plan),
-        Err(CountFault::Memory) => Err(UnpinFault::Memory),
-        Err(_) => Err(UnpinFault::Keeper),
+        Err(fault) => Err(unpin_fault(&fault)),
+    }
+}
+
+fn unpin_fault(fault: &CountFault) -> UnpinFault
+    ensures { result ≡ of_count fault.now }
+{
+    match fault {
+        CountFault::Keeper => UnpinFault::Keeper,
+        _ => UnpinFault::Memory,
     }
 }
 

@@ -1,5 +1,5 @@
-use Rattle.std.proofs.Common.{◌≡◌, ℕ, ◌+◌, ◌*◌, ◌≤◌, List, [], ◌∷◌, map, length, Option, ap}
-use Rattle.std.specs.Prelude.{IfSome}
+use Rattle.std.proofs.Common.{◌≡◌, ℕ, ◌+◌, ◌*◌, ◌≤◌, List, [], ◌∷◌, map, length, Option, sym, ap, subst}
+use Rattle.std.specs.Prelude.{IfSome, Err}
 use Rattle.cd_base.specs.declared.hash.Hash256.{Hash256}
 use Rattle.cd_cell.specs.Tree.{Tree}
 use Rattle.cd_keeper.specs.Contents.{Contents}
@@ -9,7 +9,10 @@ use Rattle.cd_world.specs.Told.{ToldWorld, shown}
 use Rattle.cd_count.specs.Changes.{Rows, states, rep_bytes, AreTogether, AreCounted, AreAdded, AreDeadCells}
 use Rattle.cd_count.specs.SoundContents.{AreSoundContents}
 use Rattle.cd_core.specs.Cores.{Holds}
-use Rattle.cd_core.proofs.Unpinned.{of-some, clear-shown}
+use Rattle.cd_event.specs.Turning.{RisesOnly}
+use Rattle.cd_event.specs.declared.faults.UnpinFault.{UnpinFault}
+use Rattle.cd_core.specs.Steps.{is_keeper_fault, IsOutsideFault}
+use Rattle.cd_core.proofs.Unpinned.{of-some, clear-shown, caused-unpin, outside-unpin}
 use Rattle.cd_core.proofs.collecting.plan_without.Goals as goal
 
 -- what a plan reads of a keeper, of one block that goes
@@ -39,9 +42,18 @@ returns-in-Ok-clause-reads g c =
     reads-one k.held H c.args.keeper.now c.empty.result c.args.root.now (k.reads c.args.keeper.now) (k.reads c.plan_drop.new.keeper)
     (λ t h. let so = h.are in c.empty.ensures.added H (shown t) (clear-shown H t so.sound)) c.plan_drop.ensures.reads
 
-pub returns-in-Err-Memory-clause-reads : goal.returns-in-Err-Memory-clause-reads
-returns-in-Err-Memory-clause-reads g c =
+pub returns-in-Err-clause-reads : goal.returns-in-Err-clause-reads
+returns-in-Err-clause-reads g c =
     let H = g.H.Hash32.digest_of in
     let k = g.K.Keeper in
     reads-one k.held H c.args.keeper.now c.empty.result c.args.root.now (k.reads c.args.keeper.now) (k.reads c.plan_drop.new.keeper)
     (λ t h. let so = h.are in c.empty.ensures.added H (shown t) (clear-shown H t so.sound)) c.plan_drop.ensures.reads
+
+pub returns-in-Err-clause-cause : goal.returns-in-Err-clause-cause
+returns-in-Err-clause-cause g c =
+    let k = g.K.Keeper in
+    let by = caused-unpin c.in-Err.fault (k.faults c.args.keeper.now) (k.faults c.plan_drop.new.keeper) c.plan_drop.ensures.cause.later c.in-Err.ensures.cause.caused in
+    subst (λ (f : UnpinFault). RisesOnly (is_keeper_fault (Err f)) (k.faults c.args.keeper.now) (k.faults c.plan_drop.new.keeper)) (sym c.unpin_fault.ensures) by
+
+pub returns-in-Err-clause-outside : goal.returns-in-Err-clause-outside
+returns-in-Err-clause-outside g c = subst (λ (f : UnpinFault). IsOutsideFault (Err f)) (sym c.unpin_fault.ensures) (outside-unpin c.in-Err.fault)
