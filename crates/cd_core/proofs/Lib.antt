@@ -12,3 +12,4 @@ pub mod Stores
 pub mod Unpinned
 pub mod Writable
 pub mod ZeroDid
+pub mod Places
