@@ -2,7 +2,9 @@ pub mod Adopted
 pub mod Apart
 pub mod DescrTables
 pub mod Doings
+pub mod Dropped
 pub mod Journaling
+pub mod Keepings
 pub mod Leading
 pub mod Unpinned
 pub mod Writable
