@@ -1,8 +1,10 @@
 pub mod Adopted
 pub mod Apart
+pub mod Begun
 pub mod DescrTables
 pub mod Doings
 pub mod Dropped
+pub mod Ended
 pub mod Journaling
 pub mod Keepings
 pub mod Leading
