@@ -193,10 +193,10 @@ module _ {K X : Type 0} (held : K → Option Contents) (H : List ℕ → Hash256
       told = λ t at h.
           let facts = of_told t at in
           let so = h.are in
-          let both = told-sound t at facts.0 facts.1.0 so.sound in
+          let both = told-sound t at facts.0 facts.1 so.sound in
           record {
             follows = both.0;
-            holds = told-holds t h.contents h.contents k' both.1 h.are (keeps.same_held ∙ h.is_held) (contents-blocks H (shown t) (shown (moved_told t who.worker event)) h.contents facts.1.1 so.are) so.bytes;
+            holds = told-holds t h.contents h.contents k' both.1 h.are (keeps.same_held ∙ h.is_held) (contents-blocks H (shown t) (shown (moved_told t who.worker event)) h.contents facts.2 so.are) so.bytes;
             trailed = keeps.same_trail ∙ ap (λ b. cond b (longer (trail k) (held k')) (trail k)) (sym none);
           };
     }
@@ -216,10 +216,10 @@ module _ {K X : Type 0} (held : K → Option Contents) (H : List ℕ → Hash256
       told = λ t at h.
           let so = h.are in
           let facts = of_told t h.contents at h.is_held h.are in
-          let both = told-sound t at facts.0 facts.1.0 so.sound in
+          let both = told-sound t at facts.0 facts.1 so.sound in
           record {
             follows = both.0;
-            holds = told-holds t h.contents (changed change h.contents) k' both.1 h.are (applied.made ∙ ap (option_map (changed change)) h.is_held) facts.1.1.0 facts.1.1.1;
+            holds = told-holds t h.contents (changed change h.contents) k' both.1 h.are (applied.made ∙ ap (option_map (changed change)) h.is_held) facts.2 facts.3;
             trailed = applied.trailed ∙ ap (λ b. cond b (longer (trail k) (held k')) (trail k)) (sym one);
           };
     }
