@@ -54,7 +54,7 @@ module _ {A : Type 0} (p : A → Bool) where
       (ap (λ b. cond b (x ∷ filter p xs) (filter p xs)) here ∙ rest.0,
        ap (λ b. cond (not b) (x ∷ filter (λ y. not (p y)) xs) (filter (λ y. not (p y)) xs)) here ∙ ap (λ ys. x ∷ ys) rest.1)
 
-  there : (xs : List A) (i : ℕ) (x : A) → slice_get xs i ≡ Some x → Contains xs x
+  pub there : (xs : List A) (i : ℕ) (x : A) → slice_get xs i ≡ Some x → Contains xs x
   there [] i x at = absurd (none-some x at)
   there (y ∷ ys) zero x at = subst (Contains (y ∷ ys)) (same_Some y x at) (Contains-first y ys)
   there (y ∷ ys) (suc i) x at = Contains-later y ys x (there ys i x at)

@@ -1,12 +1,16 @@
 pub mod Adopted
 pub mod Apart
+pub mod Begun
 pub mod Brought
 pub mod DescrTables
 pub mod Doings
+pub mod Dropped
+pub mod Ended
 pub mod Journaling
 pub mod Keepings
 pub mod Leading
 pub mod Passed
+pub mod Places
 pub mod Planned
 pub mod Stores
 pub mod Unpinned

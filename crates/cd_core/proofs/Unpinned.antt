@@ -20,7 +20,7 @@ use Rattle.cd_world.specs.declared.world.World.{World}
 use Rattle.cd_world.specs.declared.world.PinRow.{PinRow}
 use Rattle.cd_world.specs.World.{Block}
 use Rattle.cd_world.specs.World as trees
-use Rattle.cd_world.specs.Standing.{pin_at, has_id, is_pinned}
+use Rattle.cd_world.specs.Standing.{pin_at, is_pin, names_block, has_id, is_pinned}
 use Rattle.cd_world.specs.Changes.{goes_with, is_collected, pins_without, without_pin, without_pins}
 use Rattle.cd_world.specs.Machine.{moved}
 use Rattle.cd_world.specs.Told.{ToldWorld, block_of, shown, IsSound, IsSoundBlock}
@@ -141,9 +141,25 @@ and-false true true e = refl
 and-false false b e = refl
 and-false true false e = absurd (true≢false (sym e))
 
--- a block with another pin stays
-pub shared-stays : (w : World) (row : PinRow) → is_pinned (pins_without row w.pins) row.block ≡ true → is_collected w row ≡ false
-shared-stays w row shared = none-any (goes_with w row) (λ d. and-false (has_id row.block d && d.leaving) (is_pinned (pins_without row w.pins) row.block) shared) w.blocks
+module _ (w : World) (row : PinRow) where
+  -- whether another pin is on the block of a pin
+  abbrev pub is_shared : Bool
+  is_shared = list_any (λ r. not (is_pin row.worker row.pin r) && names_block row.block r) w.pins
+
+  shared-is : is_pinned (pins_without row w.pins) row.block ≡ is_shared
+  shared-is = any-filtered (λ r. not (is_pin row.worker row.pin r)) (names_block row.block) w.pins
+
+  -- a block with another pin stays
+  pub shared-stays : is_shared ≡ true → is_collected w row ≡ false
+  shared-stays shared = none-any (goes_with w row) (λ d. and-false (has_id row.block d && d.leaving) (is_pinned (pins_without row w.pins) row.block) (shared-is ∙ shared)) w.blocks
+
+  -- one without goes where it is leaving
+  pub goes-is : is_shared ≡ false → (d : Descr) → goes_with w row d ≡ (has_id row.block d && d.leaving)
+  goes-is alone d = ap (λ b. (has_id row.block d && d.leaving) && not b) (shared-is ∙ alone) ∙ by (has_id row.block d && d.leaving)
+    where
+      by : (b : Bool) → (b && not false) ≡ b
+      by true = refl
+      by false = refl
 
 -- ---- what a plan tells
 
@@ -157,13 +173,13 @@ clear-shown H t sound = subst (AreClashFree H) (sym (states-are t t.world.blocks
 
 -- ---- a plan's fault
 
-pub outside-unpin : (fault : CountFault) → IsOutsideFault (Err (of_count fault))
+pub outside-unpin : (fault : CountFault) → IsOutsideFault {A = Rows} (Err (of_count fault))
 outside-unpin count.Keeper = tt
 outside-unpin count.Memory = tt
 outside-unpin (count.Clash hash stored offered) = tt
 outside-unpin (count.CountFull hash n) = tt
 
-pub caused-unpin : (fault : CountFault) (before now : ℕ) → before ≤ now → IsCaused before now fault → RisesOnly (is_keeper_fault (Err (of_count fault))) before now
+pub caused-unpin : (fault : CountFault) (before now : ℕ) → before ≤ now → IsCaused before now fault → RisesOnly (is_keeper_fault {A = Rows} (Err (of_count fault))) before now
 caused-unpin count.Keeper before now later caused = record { later = later; steady = λ e. absurd (true≢false e); rose = λ _. caused }
 caused-unpin count.Memory before now later caused = record { later = later; steady = λ _. caused; rose = λ e. absurd (true≢false (sym e)) }
 caused-unpin (count.Clash hash stored offered) before now later caused = record { later = later; steady = λ _. caused; rose = λ e. absurd (true≢false (sym e)) }

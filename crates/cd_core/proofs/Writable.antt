@@ -48,7 +48,7 @@ written-marked m d is = elim (is_expired m d) as (λ b. let v = cond b (record d
 ]
 
 written-expired : (w : World) (m : Option Descr) → AreWritten w.blocks → AreWritten (let v = unless_expired w m in v.blocks)
-written-expired w None are = are
+written-expired w None are d h = are d h
 written-expired w (Some m) are d h =
     let left = filter (λ e. not (goes_at_once w m e)) w.blocks in
     let from = Contains-map (marked m) left d h in
@@ -87,7 +87,7 @@ module _ (H : List ℕ → Hash256) where
         let rows = merge_rows w worker pin other in
         let d = stored id (blocks_of rows) tops p in
         written-without_pins (record w { blocks = placed d w.blocks }) rows
-        (written-placed d w.blocks (written-stored id (blocks_of rows) tops p asked.0 asked.1.0 asked.1.1) are)
+        (written-placed d w.blocks (written-stored id (blocks_of rows) tops p asked.0 asked.1 asked.2) are)
     written-moved w worker (Unpin pin) are asked = written-without_pins w (option_to_list (pin_at w worker pin)) are
     written-moved w worker (Expire id) are asked = written-expired w (kept_at w id) are
 

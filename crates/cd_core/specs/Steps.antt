@@ -1,5 +1,5 @@
 -- Inner: what the work of one call does to the keeper and the world, before its entry stands in the journal.
-use Rattle.std.specs.Prelude.{◌≡◌, ℕ, ◌≤◌, Bool, true, false, if◌then◌else◌, List, Option, Some, None, IfSome, Result, Ok, Err}
+use Rattle.std.specs.Prelude.{◌≡◌, ℕ, ◌≤◌, Bool, true, false, if◌then◌else◌, List, [], ◌∷◌, Option, Some, None, IfSome, Result, Ok, Err}
 use Rattle.cd_base.specs.declared.hash.Hash256.{Hash256}
 use Rattle.cd_base.specs.Counts.{one_more}
 use Rattle.cd_keeper.specs.Contents.{Contents, Change, changed}
@@ -23,6 +23,10 @@ use Rattle.cd_world.specs.ToldTrees.{HasBytes}
 use Rattle.cd_count.specs.SoundContents.{AreSoundContents}
 use Rattle.cd_count.specs.declared.count_fault.CountFault.{CountFault}
 use Rattle.cd_count.specs.declared.count_fault.CountFault.TheVariants as count
+use Rattle.cd_block.specs.declared.block.BlockId.{BlockId}
+use Rattle.cd_block.specs.Block.{key_of}
+use Rattle.cd_count.specs.Changes.{Rows, IsCellBatch}
+use Rattle.cd_count.specs.PlanRows.{AreOfBytes}
 use Rattle.cd_core.specs.Cores.{IsWritable, Holds}
 
 -- whether an answer makes a batch
@@ -88,3 +92,10 @@ module _ {K : Type 0} (held : K → Option Contents) (H : List ℕ → Hash256) 
     pub applied : IsApplied held trail batches change k k'
     pub leads : (t : ToldWorld) (contents : Contents) → t.world ≡ w → held k ≡ Some contents → AreSoundContents H t contents
         → IsContentsOf H (shown (next t)) (changed change contents) × HasBytes (changed change contents)
+
+-- the batch of a plan that drops one description
+pub record IsDropOf (plan : Rows) (id : BlockId) (change : Change) : Type 0 where
+  pub cells : IsCellBatch plan change
+  pub bytes : AreOfBytes change.put_cells
+  pub puts : change.put_descs ≡ []
+  pub drops : change.drop_descs ≡ key_of id ∷ []

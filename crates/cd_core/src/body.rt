@@ -1,5 +1,5 @@
 //! The core, and what it keeps.
-ghost use Rattle.std.specs.Prelude.{◌≡◌, ◌≤◌, ◌++◌, ◌∷◌, [], List, All, AllPairs, IfSome, OnOk, OnErr};
+ghost use Rattle.std.specs.Prelude.{◌≡◌, ◌≤◌, ◌++◌, ◌∷◌, [], List, All, AllPairs, length, ◌<◌, ◌^◌, IfSome, OnOk, OnErr};
 ghost use Rattle.cd_block.specs.Description.{IsDescr, IsDescrFit};
 ghost use Rattle.cd_record.specs.declared.limits.TheConstants.{GREATEST_COUNT};
 ghost use Rattle.cd_event.specs.declared.entry.Entry.{Entry};
@@ -106,6 +106,7 @@ impl<K: Keeper, H: Hash32> Core<K, H> {
 /// Makes room for an entry, before anything is done.
 pub(crate) fn make_room<H: Hash32>(journal: &mut Journal<H>, who: Who) -> Result<(), Memory>
     ensures ok { OnOk result ((room : Entry H) × (journal.new ≡ journal.old ++ room ∷ [])) }
+    ensures fits { OnOk result (length journal.new < 2 ^ 64) }
     ensures err { OnErr result (journal.new ≡ journal.old) }
 {
     journal.push(Entry {

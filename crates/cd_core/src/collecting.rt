@@ -2,9 +2,11 @@
 ghost use Rattle.std.specs.Prelude.{◌≡◌, ◌≤◌, ◌<◌, ◌+◌, ◌*◌, ◌∷◌, [], ℕ, List, length, map, filter, slice_get, not, ◌&&◌, false, true, IfSome, Some, None, IfOk, OnOk, OnErr};
 ghost use Rattle.cd_block.specs.declared.description.Descr.{Descr};
 ghost use Rattle.cd_cell.specs.Tree.{Tree};
-ghost use Rattle.cd_keeper.specs.Keeping.{KeepsHeld};
-ghost use Rattle.cd_world.specs.Standing.{is_pin, names_block, is_pinned};
-ghost use Rattle.cd_world.specs.Changes.{pins_without, goes_with, is_collected};
+ghost use Rattle.cd_keeper.specs.Keeping.{KeepsHeld, IsApplied};
+ghost use Rattle.cd_keeper.specs.Contents.{Change};
+ghost use Rattle.cd_world.specs.Standing.{is_pin, names_block};
+ghost use Rattle.std.specs.List.{list_any};
+ghost use Rattle.cd_world.specs.Changes.{goes_with, is_collected};
 ghost use Rattle.cd_world.specs.Told.{ToldWorld, block_of, shown};
 ghost use Rattle.cd_world.specs.World.{Block};
 ghost use Rattle.cd_world.specs.World as trees;
@@ -12,7 +14,7 @@ ghost use Rattle.cd_count.specs.Changes.{AreDeadCells, AreTogether, AreCounted, 
 ghost use Rattle.cd_count.specs.PlanRows.{AreOfBytes};
 ghost use Rattle.cd_event.specs.Turning.{RisesOnly};
 ghost use Rattle.cd_core.specs.Cores.{IsWritable, Holds};
-ghost use Rattle.cd_core.specs.Steps.{Batches, told_without, is_keeper_fault, IsOutsideFault, of_count};
+ghost use Rattle.cd_core.specs.Steps.{Batches, told_without, is_keeper_fault, IsOutsideFault, IsDropOf, of_count};
 ghost use Rattle.cd_block.specs.Block.{IsBlockId, key_of};
 ghost use Rattle.cd_count.specs.Changes.{IsCellBatch};
 
@@ -27,7 +29,8 @@ use std::alloc::Global;
 
 /// Whether a pin but this one is on its block.
 fn is_shared(world: &World, row: &PinRow) -> bool
-    ensures { result ≡ is_pinned (pins_without row.now world.now.pins) row.now.block }
+    ensures { result ≡ list_any (λ r. not (is_pin row.now.worker row.now.pin r) && names_block row.now.block r)
+        world.now.pins }
 {
     world
         .pins
@@ -54,7 +57,8 @@ pub(crate) fn collected_place(world: &World, row: &PinRow) -> Option<usize>
     }
     let blocks = world.blocks.as_slice();
     for place in 0..blocks.len() {
-        if is_same_id(&blocks[place].id, &row.block) && blocks[place].leaving {
+        let block = &blocks[place];
+        if is_same_id(&block.id, &row.block) && block.leaving {
             return Some(place);
         }
     }
@@ -85,7 +89,25 @@ pub(crate) fn drop_block<K: Keeper, H: Hash32>(
 {
     let block = &world.blocks.as_slice()[place];
     let plan = plan_without::<K, H>(alloc, keeper, &block.root)?;
-    let Ok(batch) = batch_without(alloc, plan, block.id) else {
+    apply_without(alloc, keeper, plan, block.id)
+}
+
+/// Makes the batch of a plan that drops one description.
+fn apply_without<K: Keeper>(
+    alloc: Global,
+    keeper: &mut K,
+    plan: Plan,
+    id: BlockId,
+) -> Result<(), UnpinFault>
+    requires { IsBlockId id }
+    ensures done { OnOk result ((change : Change) × IsDropOf plan id change
+        × IsApplied K.held K.trail K.batches change keeper.old keeper.new) }
+    ensures undone { OnErr result (KeepsHeld K.held K.trail K.batches keeper.old keeper.new) }
+    ensures cause { RisesOnly (is_keeper_fault result) (K.faults keeper.old) (K.faults keeper.new) }
+    ensures outside { IsOutsideFault result }
+    ensures reads { K.reads keeper.new ≡ K.reads keeper.old }
+{
+    let Ok(batch) = batch_without(alloc, plan, id) else {
         return Err(UnpinFault::Memory);
     };
     match keeper.apply(&batch) {
@@ -135,11 +157,8 @@ fn unpin_fault(fault: &CountFault) -> UnpinFault
 
 /// The batch of a plan that drops one description.
 fn batch_without(alloc: Global, plan: Plan, id: BlockId) -> Result<Batch, Memory>
-    requires named { IsBlockId id }
-    ensures cells { IfOk result (λ batch. IsCellBatch plan batch) }
-    ensures bytes { IfOk result (λ batch. AreOfBytes batch.put_cells) }
-    ensures puts { IfOk result (λ batch. batch.put_descs ≡ []) }
-    ensures drops { IfOk result (λ batch. batch.drop_descs ≡ key_of id ∷ []) }
+    requires { IsBlockId id }
+    ensures { IfOk result (IsDropOf plan id) }
 {
     let mut ids = Vec::new(alloc);
     ids.push(id)?;

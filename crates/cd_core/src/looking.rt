@@ -3,6 +3,7 @@ ghost use Rattle.std.specs.Prelude.{◌≡◌, ◌≤◌, ◌+◌, ℕ, length, 
 ghost use Rattle.cd_base.specs.Counts.{one_more};
 ghost use Rattle.cd_cell.specs.GoodFace.{IsGoodFace};
 ghost use Rattle.cd_keeper.specs.Keeping.{KeepsHeld, HasKeepCause};
+ghost use Rattle.cd_record.specs.declared.limits.TheConstants.{GREATEST_COUNT};
 ghost use Rattle.cd_event.specs.declared.event.Event.TheVariants.{Look};
 ghost use Rattle.cd_event.specs.Replies.{look_reply};
 ghost use Rattle.cd_event.specs.Turning.{AreGood, is_keeper, RisesOnly};
@@ -64,7 +65,7 @@ fn look_under<K: Keeper, H: Hash32>(
     hashes: &[Hash256],
 ) -> Result<Vec<Option<Face>>, LookFault>
     requires kept { IsWritable world.now }
-    ensures did { (limit : ℕ) → Did K.held H.digest_of K.trail {X = H} K.batches K.faults limit world.now keeper.old who
+    ensures did { (limit : ℕ) → limit ≤ GREATEST_COUNT → Did K.held H.digest_of K.trail {X = H} K.batches K.faults limit world.now keeper.old who
         (Look pin (length hashes.now)) (look_reply result) world.now keeper.new }
     ensures reads { K.reads keeper.new ≤ K.reads keeper.old + length hashes.now }
     ensures found { IfOk result (λ found. length found.items ≡ length hashes.now) }

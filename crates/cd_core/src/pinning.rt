@@ -1,5 +1,6 @@
 //! A pin begins.
-ghost use Rattle.std.specs.Prelude.{◌≡◌, ◌<◌, ◌+◌, ◌^◌, ℕ, IfOk, Some};
+ghost use Rattle.std.specs.Prelude.{◌≡◌, ◌<◌, ◌≤◌, ◌+◌, ◌^◌, ℕ, IfOk, Some};
+ghost use Rattle.cd_record.specs.declared.limits.TheConstants.{GREATEST_COUNT};
 ghost use Rattle.cd_event.specs.declared.event.Event.TheVariants.{Pin};
 ghost use Rattle.cd_event.specs.Replies.{pin_reply};
 ghost use Rattle.cd_world.specs.Standing.{kept_at};
@@ -55,7 +56,7 @@ fn begin_pin<K: Keeper, H: Hash32>(
 ) -> Result<Pinned, PinFault>
     requires kept { IsWritable world.old }
     requires next { world.old.next + 1 < 2 ^ 64 }
-    ensures did { (limit : ℕ) (k : K) → Did K.held H.digest_of K.trail {X = H} K.batches K.faults limit world.old k who
+    ensures did { (limit : ℕ) (k : K) → limit ≤ GREATEST_COUNT → Did K.held H.digest_of K.trail {X = H} K.batches K.faults limit world.old k who
         (Pin id.now) (pin_reply result) world.new k }
     ensures root { IfOk result (λ pinned. (d : Descr) × (kept_at world.old id.now ≡ Some d)
         × (pinned.root ≡ root_info d)) }

@@ -112,7 +112,7 @@ fn block_place(blocks: &[Descr], id: &BlockId) -> usize
     ensures place { (d : Descr) → d.id ≡ id.now → insert blocks.now result d ≡ placed d blocks.now }
 {
     for (place, block) in blocks.iter().enumerate() {
-        if *id < block.id {
+        if id.cmp(&block.id).is_lt() {
             return place;
         }
     }

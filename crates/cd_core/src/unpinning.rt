@@ -71,7 +71,9 @@ fn end_pin<K: Keeper, H: Hash32>(
     };
     let row = *row;
     if let Some(place) = collected_place(world, &row) {
-        drop_block::<K, H>(alloc, keeper, world, &row, place)?;
+        if let Err(fault) = drop_block::<K, H>(alloc, keeper, world, &row, place) {
+            return Err(fault);
+        }
         world.blocks.remove(place);
         world.pins.drop_pin(row.worker, row.pin);
         return Ok(true);

@@ -53,7 +53,7 @@ pub returns-in-Err-clause-cause : goal.returns-in-Err-clause-cause
 returns-in-Err-clause-cause g c =
     let k = g.K.Keeper in
     let by = caused-unpin c.in-Err.fault (k.faults c.args.keeper.now) (k.faults c.plan_drop.new.keeper) c.plan_drop.ensures.cause.later c.in-Err.ensures.cause.caused in
-    subst (λ (f : UnpinFault). RisesOnly (is_keeper_fault (Err f)) (k.faults c.args.keeper.now) (k.faults c.plan_drop.new.keeper)) (sym c.unpin_fault.ensures) by
+    subst (λ (f : UnpinFault). RisesOnly (is_keeper_fault {A = Rows} (Err f)) (k.faults c.args.keeper.now) (k.faults c.plan_drop.new.keeper)) (sym c.unpin_fault.ensures) by
 
 pub returns-in-Err-clause-outside : goal.returns-in-Err-clause-outside
-returns-in-Err-clause-outside g c = subst (λ (f : UnpinFault). IsOutsideFault (Err f)) (sym c.unpin_fault.ensures) (outside-unpin c.in-Err.fault)
+returns-in-Err-clause-outside g c = subst (λ (f : UnpinFault). IsOutsideFault {A = Rows} (Err f)) (sym c.unpin_fault.ensures) (outside-unpin c.in-Err.fault)
