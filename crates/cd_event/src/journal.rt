@@ -1,10 +1,7 @@
 ghost use Rattle.std.specs.Prelude.{◌≡◌, ◌++◌, ◌∷◌, [], List, length, ◌<◌, ◌^◌, OnOk, OnErr};
 ghost use Rattle.cd_event.specs.declared.entry.Entry.{Entry};
-ghost use Rattle.cd_event.specs.declared.entry.Reply.TheVariants.{Refused};
-ghost use Rattle.cd_event.specs.declared.refusal.Refusal.TheVariants.{Keeper};
 
-use crate::entry::{Entry, Reply};
-use crate::refusal::Refusal;
+use crate::entry::Entry;
 use cd_base::Memory;
 use cd_cell::Hash32;
 use std::alloc::Global;
@@ -54,17 +51,6 @@ impl<H: Hash32> Journal<H> {
             → self.new ≡ front }
     {
         let _ = self.entries.pop();
-    }
-
-    /// Makes the keeper's failure the reply of the last entry, if there is one.
-    pub fn fail_last(&mut self)
-        ensures { (front : List (Entry H)) (last : Entry H) → self.old ≡ front ++ last ∷ []
-            → self.new ≡ front ++ (record last { reply = Refused Keeper }) ∷ [] }
-    {
-        let count = self.entries.len();
-        if count > 0 {
-            self.entries[count - 1].reply = Reply::Refused(Refusal::Keeper);
-        }
     }
 
     /// Puts an entry into the place of the last one, if there is one.

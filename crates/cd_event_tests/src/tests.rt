@@ -178,13 +178,15 @@ fn said(entry: &Entry<Sha>) -> (Who, Option<u64>, &'static str) {
 }
 
 #[test]
-fn a_journal_grows_fails_and_is_taken_back(rt: HostRuntime) -> Result<(), Fail> {
+fn a_journal_grows_changes_and_is_taken_back(rt: HostRuntime) -> Result<(), Fail> {
     let mut journal = Journal::new(rt.alloc());
     for pin in 0..3 {
         journal.push(look_entry(pin)).ok().ok_or("memory")?;
     }
     journal.take_back();
-    journal.fail_last();
+    let mut failed = look_entry(1);
+    failed.reply = Reply::Refused(Refusal::Keeper);
+    journal.put_last(failed);
     let entries = journal.as_slice();
     assert_eq!(rt; entries.len(), 2);
     assert_eq!(rt; said(&entries[0]).2, "looked");

@@ -60,15 +60,6 @@ impl<T> Rows<T> {
         Ok(())
     }
 
-    /// Takes back the last item.
-    pub fn take_back(&mut self)
-    where
-        T: Drop,
-        ensures { (front : List T) (last : T) → self.old ≡ front ++ last ∷ [] → self.new ≡ front }
-    {
-        let _ = self.all.pop();
-    }
-
     /// Puts an item into a place, or nothing changes.
     pub fn insert(&mut self, place: usize, item: T) -> Result<(), Memory>
     where

@@ -79,7 +79,7 @@ fn blocks_and_pins_are_found(rt: HostRuntime) -> Result<(), Fail> {
 #[test]
 fn what_the_tops_passed_expires(rt: HostRuntime) -> Result<(), Fail> {
     let alloc = rt.alloc();
-    let world = world(alloc)?;
+    let mut world = world(alloc)?;
     // A top of the left half, of the seqno of the block there: that block stays, and so does the right half's, which
     // the top doesn't meet. The older block of the whole shard goes, but not the leaving one, and so does the older
     // master block.
@@ -93,6 +93,11 @@ fn what_the_tops_passed_expires(rt: HostRuntime) -> Result<(), Fail> {
         id(-1, 0x8000_0000_0000_0000, 4),
     ];
     assert_eq!(rt; gone.as_slice(), due.as_slice());
+    // The one with a pin stays as leaving, and the other is gone.
+    world.blocks.expire(&master, world.pins.as_slice());
+    assert_eq!(rt; world.blocks.as_slice().len(), 5);
+    assert!(rt; find_block(&world, &due[0]).is_some_and(|block| block.leaving));
+    assert!(rt; find_block(&world, &due[1]).is_none());
     Ok(())
 }
 
@@ -103,7 +108,7 @@ fn rows_grow_and_shrink_in_place(rt: HostRuntime) -> Result<(), Fail> {
     assert_eq!(rt; pins.as_slice().len(), 65);
     pins.drop_pin(1, 63);
     assert_eq!(rt; pins.as_slice().len(), 64);
-    pins.take_back();
-    assert_eq!(rt; pins.as_slice().len(), 63);
+    pins.remove(0);
+    assert!(rt; pins.as_slice()[0].pin == 1);
     Ok(())
 }
