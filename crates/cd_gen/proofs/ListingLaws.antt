@@ -1,5 +1,5 @@
 -- Laws of the cells of a tree as they are listed.
-use Rattle.std.proofs.Common.{◌≡◌, ℕ, zero, suc, ◌+◌, ◌*◌, ◌^◌, Bool, false, List, [], ◌∷◌, ◌++◌, length, map, reverse, get_or, take, drop, Result, Ok, Err, IfOk, OnOk, refl, sym, ap, ap₂, ◌∙◌, arith}
+use Rattle.std.proofs.Common.{◌≡◌, ℕ, zero, suc, ◌+◌, ◌*◌, ◌^◌, ◌<◌, Bool, false, List, [], ◌∷◌, ◌++◌, length, map, reverse, get_or, take, drop, Result, Ok, Err, IfOk, OnOk, refl, sym, ap, ap₂, ◌∙◌, arith}
 use Rattle.std.proofs.Math.Nat.{pow-suc}
 use Rattle.std.proofs.lemmas.List.{append-nil, append_assoc, map-append, reverse-append, length-map, length-reverse, length-append, get_or_push, length_push, take_at, drop_at}
 use Rattle.cd_cell.specs.declared.info.ChildInfo.{ChildInfo}
@@ -46,6 +46,11 @@ module _ {A : Type 0} (f : Tree → A) where
       let below = reverse (map f (subtrees_of_all ts)) in
       ap (λ xs. get_or xs k d) e ∙ get_or_push below (f (cell exotic bits ts)) d k (omega (arith, ap length e, length_push below (f (cell exotic bits ts))))
 
+  pub turned-some : (t : Tree) → 0 < length (turned f t)
+  turned-some (cell exotic bits ts) =
+      let below = reverse (map f (subtrees_of_all ts)) in
+      omega (arith, ap length (turned-last exotic bits ts), length_push below (f (cell exotic bits ts)))
+
   pub turned-right : (left right : Tree) (n : ℕ) → length (turned f right) ≡ n → take n (turned f (over left right)) ≡ turned f right
   turned-right left right n long = ap (take n) (turned-pair _ _ left right) ∙ take_at (turned f right) (turned f left ++ f (over left right) ∷ []) n long
 
@@ -91,7 +96,7 @@ pair_face exotic bits l left k right e e' = ap₂ (pair_of exotic bits) e e'
 pub listed-alone : {E : Type 0} (r : Result ChildInfo E) (exotic : Bool) (bits : List Bool) (face : FaceView) (old new : List Cell) → face ≡ face_of sha (cell exotic bits no_trees)
     → OnOk r (faces new ≡ faces old ++ face ∷ []) → IfOk r (λ info. info ≡ info_of_face sha face) → IfOk r (λ info. IsListed (cell exotic bits no_trees) old new info)
 listed-alone (Ok info) exotic bits face old new is listed root = record {
-  cells = listed ∙ ap (λ x. faces old ++ x ∷ []) is;
+  cells = listed ∙ ap (λ x. faces old ++ x ∷ []) is ∙ ap (λ xs. faces old ++ xs) (sym (turned-alone (face_of sha) exotic bits));
   root = root ∙ ap (info_of_face sha) is;
 }
 listed-alone (Err e) exotic bits face old new is listed root = tt
@@ -119,7 +124,10 @@ listed-pair (Err e) exotic bits left right face a b c d l k first second is list
 pub kept-alone : {E : Type 0} (r : Result ChildInfo E) (exotic : Bool) (bits : List Bool) (face : FaceView) (old new : List ChildInfo) → face ≡ face_of sha (cell exotic bits no_trees)
     → IfOk r (λ info. new ≡ old ++ info ∷ []) → IfOk r (λ info. info ≡ info_of_face sha face) → IfOk r (λ info. IsKept (cell exotic bits no_trees) old new info)
 kept-alone (Ok info) exotic bits face old new is kept root =
-    let whole = root ∙ ap (info_of_face sha) is in record { infos = kept ∙ ap (λ x. old ++ x ∷ []) whole; root = whole }
+    let whole = root ∙ ap (info_of_face sha) is in record {
+      infos = kept ∙ ap (λ x. old ++ x ∷ []) whole ∙ ap (λ xs. old ++ xs) (sym (turned-alone (info_of sha) exotic bits));
+      root = whole;
+    }
 kept-alone (Err e) exotic bits face old new is kept root = tt
 
 pub kept-pair : {E : Type 0} (r : Result ChildInfo E) (left right : Tree) (face : FaceView) (a b c d : List ChildInfo) (l k : ChildInfo)

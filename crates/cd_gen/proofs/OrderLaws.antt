@@ -2,9 +2,10 @@
 use Rattle.std.proofs.Common.{◌≡◌, ◌≢◌, ℕ, zero, suc, ◌+◌, ◌-◌, ◌<◌, ◌≤◌, List, [], ◌∷◌, ◌++◌, length, get_or, map, reverse, All, AllPairs, Contains, Less, Equal, Greater, Ordering, nat_cmp, refl, ap, ap₂, sym, ◌∙◌, subst, ⊎_elim, arith}
 use Rattle.std.specs.Ordering.{ordering_then, match_ordering}
 use Rattle.std.specs.Cmp.{IsTotalOrder}
+use Rattle.std.proofs.lemmas.Bool.{cases_lt}
 use Rattle.std.proofs.lemmas.Bool.Decides.{nat_tests}
 use Rattle.std.proofs.lemmas.Cmp.{then_total, back_total, on_total, nat_cmp_total, tied_itself}
-use Rattle.std.proofs.lemmas.List.{length-map, length-reverse, reverse-append, reverse-reverse, map-append, get_or-map, get_or-reverse, get_or_default}
+use Rattle.std.proofs.lemmas.List.{length-map, length-reverse, reverse-append, reverse-reverse, map-append, get_or-map, get_or-reverse, get_or_default, get_or_append_left, get_or_push, length_push}
 use Rattle.std.proofs.lemmas.List.Elements.{Contains-get_or}
 use Rattle.cd_base.specs.declared.hash.Hash256.{Hash256}
 use Rattle.cd_cell.specs.declared.info.ChildInfo.{ChildInfo}
@@ -15,7 +16,7 @@ use Rattle.cd_cell.specs.GoodFace.{IsGoodFace}
 use Rattle.cd_cell.specs.Infos.{no_hash, rep_of_info, height_of_info}
 use Rattle.cd_cell.specs.Levels.{info_of_face, rep_of_face, height_of_face}
 use Rattle.cd_cell.specs.Tree.{Tree, Trees, cell, subtrees, face_of, rep_of, height_of}
-use Rattle.cd_cell.specs.Export.{hash_cmp, export_cmp, with_distinct, sorted_distinct, distinct_cells}
+use Rattle.cd_cell.specs.Export.{hash_cmp, export_cmp, with_distinct, sorted_distinct, AreDistinct, distinct_cells}
 use Rattle.cd_cell.specs.Listings.{no_cell, listed_at, listing_cmp, new_cell_of}
 use Rattle.cd_cell.proofs.Subtrees.{Contains-first, Contains-later, Contains-cases, Contains-nil, Contains-map, Contains-mapped}
 use Rattle.cd_cell.proofs.ExportOrder.{hash_cmp-total}
@@ -25,7 +26,7 @@ use Rattle.cd_gen.specs.declared.key.Place.{Place}
 use Rattle.cd_gen.specs.declared.key.Key.{Key}
 use Rattle.cd_gen.specs.States.{sha}
 use Rattle.cd_gen.specs.Listing.{turned, faces, faces_of}
-use Rattle.cd_gen.specs.Keys.{place_cmp, key_of, AreKeys, AreFirst}
+use Rattle.cd_gen.specs.Keys.{place_cmp, key_of, listed_cell, cell_at, AreKeys, AreFirst}
 use Rattle.cd_gen.proofs.KeyLaws.{place_cmp-total}
 
 -- ---- sorted lists without ties, by their last elements
@@ -112,6 +113,9 @@ place_at c = record { lowness = 65535 - height_of_face c.face; hash = c.hash }
 abbrev key_at : List NewCell → ℕ → Key
 key_at cs n = record { place = place_at (listed_at cs n); number = n }
 
+abbrev no_key : Key
+no_key = record { place = record { lowness = 0; hash = no_hash }; number = 0 }
+
 -- a cell with a good face under the hash of it
 pub record IsOwn (c : NewCell) : Type 0 where
   pub good : IsGoodFace c.face
@@ -159,9 +163,6 @@ module _ (cs : List NewCell) (infos : List ChildInfo) (own : (n : ℕ) → n < l
         let is-b = new-is b in-b in
         ap₂ (λ (x y : Key). place_cmp x.place y.place) is-a.1 is-b.1 ∙ ranked a.number b.number is-a.0 is-b.0
 
-    abbrev no_key : Key
-    no_key = record { place = record { lowness = 0; hash = no_hash }; number = 0 }
-
     ordered : AllPairs (λ a b. listing_cmp a b ≡ Less) (map at new)
     ordered i j d before in' =
         let in-new : j < length new = omega (arith, in', length-map new at) in
@@ -200,6 +201,7 @@ module _ (cs : List NewCell) (infos : List ChildInfo) (own : (n : ℕ) → n < l
         is-first key h m (omega (arith, low, in-j, is.0))
         (ap (listing_cmp z) (sym (get_or-reverse cs j z in-j ∙ get_or_default cs m z no_cell (omega (arith, in-j)))) ∙ tie))
 
+    distinct : AreDistinct listing_cmp (reverse cs) sorted
     distinct = AreDistinct-sorted_distinct listing_cmp listing_cmp-total (reverse cs)
 
     -- listed by their keys they are the sorted ones
@@ -221,9 +223,6 @@ module _ (cs : List NewCell) (infos : List ChildInfo) (own : (n : ℕ) → n < l
         (Contains-mapped at new kept.0 kept.1))
 
 -- ---- the cells of a tree
-
-abbrev pub listed_cell : Cell → NewCell
-listed_cell c = record { hash = rep_of_info c.info; face = c.face }
 
 pub own-listed : (cells : List Cell) (n : ℕ) → n < length (map listed_cell cells) → IsOwn (listed_at (map listed_cell cells) n)
 own-listed [] n in' = absurd (omega arith)
@@ -257,14 +256,44 @@ map-reverse f (x ∷ xs) =
     ∙ ap (λ ys. ys ++ f x ∷ []) (map-reverse f xs)
     ∙ sym (reverse-append (f x ∷ []) (map f xs))
 
--- the cells of a tree, listed by their keys, are its distinct ones
-pub distinct-listed : (cells : List Cell) (t : Tree) → faces cells ≡ faces_of t → (old new : List Key) → AreKeys (map (λ (c : Cell). c.info) cells) old (length (map listed_cell cells)) → AreFirst old new
-    → map (λ (key : Key). listed_at (map listed_cell cells) key.number) new ≡ map (new_cell_of sha) (distinct_cells sha t)
-unfolding turned
-distinct-listed cells t is old new made first =
-    let cs = map listed_cell cells in
-    let ys = map (face_of sha) (subtrees t) in
-    let turned-back : reverse cs ≡ map (new_cell_of sha) (subtrees t) = ap reverse (by-faces cells ∙ ap (map cell_with) is ∙ map-reverse cell_with ys) ∙ reverse-reverse (map cell_with ys) ∙ all-by_tree (subtrees t) in
-    listed-sorted cs (map (λ (c : Cell). c.info) cells) (own-listed cells) (shown-listed cells) old new made first
-    ∙ ap (sorted_distinct listing_cmp) turned-back
-    ∙ listed-distinct t
+module _ (cells : List Cell) (old new : List Key) (keys : AreKeys (map (λ (c : Cell). c.info) cells) old (length cells)) (first : AreFirst old new) where
+  long : length cells ≡ length (map listed_cell cells)
+  long = sym (length-map cells listed_cell)
+
+  made : AreKeys (map (λ (c : Cell). c.info) cells) old (length (map listed_cell cells))
+  made = subst (AreKeys (map (λ (c : Cell). c.info) cells) old) long keys
+
+  pub keys-there : All (λ (key : Key). key.number < length cells) new
+  keys-there k d in' = omega (arith, long, all-there (map listed_cell cells) (map (λ (c : Cell). c.info) cells) (own-listed cells) (shown-listed cells) old new made first k d in')
+
+  pub good-listed : All (λ (c : NewCell). IsGoodFace c.face) (map (cell_at cells) new)
+  good-listed k d in' =
+      let there : k < length new = omega (arith, in', length-map new (cell_at cells)) in
+      let key = get_or new k no_key in
+      subst (λ (c : NewCell). IsGoodFace c.face) (sym (get_or-map (cell_at cells) new k no_key d there))
+      (own-listed cells key.number (omega (arith, long, keys-there k no_key there))).good
+
+  -- the cells of a tree, listed by their keys, are its distinct ones
+  pub distinct-listed : (t : Tree) → faces cells ≡ faces_of t → map (cell_at cells) new ≡ map (new_cell_of sha) (distinct_cells sha t)
+  unfolding turned
+  distinct-listed t is =
+      let cs = map listed_cell cells in
+      let ys = map (face_of sha) (subtrees t) in
+      let turned-back : reverse cs ≡ map (new_cell_of sha) (subtrees t) = ap reverse (by-faces cells ∙ ap (map cell_with) is ∙ map-reverse cell_with ys) ∙ reverse-reverse (map cell_with ys) ∙ all-by_tree (subtrees t) in
+      listed-sorted cs (map (λ (c : Cell). c.info) cells) (own-listed cells) (shown-listed cells) old new made first
+      ∙ ap (sorted_distinct listing_cmp) turned-back
+      ∙ listed-distinct t
+
+-- the key of one more cell
+pub keys-more : (infos : List ChildInfo) (keys new : List Key) (n : ℕ) (x : Key) → AreKeys infos keys n → new ≡ keys ++ x ∷ [] → ((e : ChildInfo) → x ≡ key_of (get_or infos n e) n) → AreKeys infos new (n + 1)
+keys-more infos keys new n x before is made = record {
+  counted = omega (arith, ap length is, length_push keys x, before.counted);
+  made = λ k d e low.
+      ap (λ ks. get_or ks k d) is
+      ∙ ⊎_elim
+      (λ lower. get_or_append_left keys (x ∷ []) d k (omega (arith, lower, before.counted)) ∙ before.made k d e lower)
+      (λ last.
+      let same : n ≡ k = omega (arith, low, last) in
+      get_or_push keys x d k (before.counted ∙ same) ∙ made e ∙ ap (λ m. key_of (get_or infos m e) m) same)
+      (cases_lt k n);
+}

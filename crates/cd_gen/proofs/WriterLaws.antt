@@ -42,12 +42,12 @@ writer_of-before number j seqno (suc d) near written =
 
 -- before the block of a seqno its leaves were written sixteen blocks ago, or by none
 pub writer_of-sixteen_before : (number seqno j : ℕ) → is_written number seqno j ≡ true → writer_of number (seqno - 1) j ≡ seqno - 16
+unfolding writer_of
 writer_of-sixteen_before number seqno j written =
     let e : seqno - 1 - 15 ≡ seqno - 16 = omega arith in
     writer_of-before number j seqno 15 (omega arith) written ∙ ap (λ k. writer_of number k j) e ∙ at (seqno - 16) refl
   where
     at : (k : ℕ) → seqno - 16 ≡ k → writer_of number k j ≡ k
-    unfolding writer_of
     at zero is = refl
     at (suc k) is =
         let again : is_written number (suc k) j ≡ true = subst (λ r. (j % 16 == r) ≡ true) (rest (omega arith)) written in
@@ -74,6 +74,10 @@ none_written p first (suc count) none j low high =
 pub one_written : (p : ℕ → Bool) (first : ℕ) → list_any p (range_with_len first 1) ≡ true → p first ≡ true
 one_written p first some = ⊎_elim (λ here. here) (λ none. absurd cc) (or_cases (p first) false some)
 
+-- what a block was asked
+pub asked : (number seqno first count n : ℕ) (answer value : Bool) → answer ≡ some_written number seqno first n → n ≡ count → answer ≡ value → some_written number seqno first count ≡ value
+asked number seqno first count n answer value is same e = ap (λ k. some_written number seqno first k) (sym same) ∙ sym is ∙ e
+
 -- ---- trees over the same leaves
 
 pub full-same : (number chain a b levels first : ℕ) → ((j : ℕ) → first ≤ j → j < first + 2 ^ levels → writer_of number a j ≡ writer_of number b j) → full number chain a levels first ≡ full number chain b levels first
@@ -91,6 +95,11 @@ pub full-leaf : (number chain seqno levels first : ℕ) → levels ≡ 0 → ful
 unfolding full
 full-leaf number chain seqno zero first none = refl
 full-leaf number chain seqno (suc levels) first none = absurd (omega arith)
+
+pub full-zero_leaf : (number chain levels first : ℕ) → levels ≡ 0 → full number chain 0 levels first ≡ leaf number chain first 0
+unfolding full writer_of
+full-zero_leaf number chain zero first none = refl
+full-zero_leaf number chain (suc levels) first none = absurd (omega arith)
 
 pub full-over : (number chain seqno levels first : ℕ) → 0 < levels → full number chain seqno levels first ≡ over (full number chain seqno (levels - 1) first) (full number chain seqno (levels - 1) (first + 2 ^ (levels - 1)))
 unfolding full

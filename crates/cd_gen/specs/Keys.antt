@@ -1,11 +1,14 @@
 -- Inner: listed cells by where they stand in an export.
-use Rattle.std.specs.Prelude.{◌≡◌, ◌≢◌, ℕ, ◌-◌, ◌<◌, ◌≤◌, List, length, slice_index_or, Contains, AllPairs}
+use Rattle.std.specs.Prelude.{◌≡◌, ℕ, ◌-◌, ◌<◌, ◌≤◌, List, length, map, slice_index_or, Contains, AllPairs}
 use Rattle.std.specs.Ordering.{nat_cmp, ordering_then}
 use Rattle.std.specs.declared.cmp.Ordering.{Ordering}
 use Rattle.std.specs.declared.cmp.Ordering.TheVariants.{Less}
 use Rattle.cd_cell.specs.declared.info.ChildInfo.{ChildInfo}
 use Rattle.cd_cell.specs.Infos.{rep_of_info, height_of_info}
 use Rattle.cd_cell.specs.Export.{hash_cmp}
+use Rattle.cd_cell.specs.declared.new_cell.NewCell.{NewCell}
+use Rattle.cd_cell.specs.Listings.{listed_at}
+use Rattle.cd_gen.specs.declared.cell.Cell.{Cell}
 use Rattle.cd_gen.specs.declared.key.Place.{Place}
 use Rattle.cd_gen.specs.declared.key.Key.{Key}
 
@@ -16,6 +19,13 @@ place_cmp a b = ordering_then (nat_cmp a.lowness b.lowness) (hash_cmp a.hash b.h
 -- the key of a listed cell that shows this
 abbrev pub key_of : ChildInfo → ℕ → Key
 key_of info number = record { place = record { lowness = 65535 - height_of_info info; hash = rep_of_info info }; number = number }
+
+-- a listed cell under its hash, and that of a key
+abbrev pub listed_cell : Cell → NewCell
+listed_cell c = record { hash = rep_of_info c.info; face = c.face }
+
+abbrev pub cell_at : List Cell → Key → NewCell
+cell_at cells key = listed_at (map listed_cell cells) key.number
 
 -- the keys of cells by what they show, in their places
 pub record AreKeys (infos : List ChildInfo) (keys : List Key) (count : ℕ) : Type 0 where

@@ -1,6 +1,5 @@
 ghost use Rattle.std.specs.Prelude.{◌≡◌, ◌<◌, length, map, All, IfOk};
 ghost use Rattle.cd_cell.specs.GoodFace.{IsGoodFace};
-ghost use Rattle.cd_cell.specs.Infos.{rep_of_info};
 ghost use Rattle.cd_cell.specs.Tree.{Tree};
 ghost use Rattle.cd_cell.specs.Export.{distinct_cells};
 ghost use Rattle.cd_cell.specs.Listings.{new_cell_of};
@@ -8,7 +7,7 @@ ghost use Rattle.cd_boc_write.specs.Exports as export;
 ghost use Rattle.cd_feed.specs.Feeds.{IsBagFit};
 ghost use Rattle.cd_gen.specs.States.{sha};
 ghost use Rattle.cd_gen.specs.Listing.{faces, faces_of};
-ghost use Rattle.cd_gen.specs.Keys.{AreKeys};
+ghost use Rattle.cd_gen.specs.Keys.{AreKeys, listed_cell, cell_at};
 
 use crate::cell::Cell;
 use crate::key::{Key, sort};
@@ -48,8 +47,16 @@ fn in_order(alloc: Global, cells: &[Cell]) -> Result<Vec<NewCell>, AllocError>
 {
     let mut keys = keys_of(alloc, cells)?;
     sort(&mut keys);
+    cells_of(alloc, cells, &keys)
+}
+
+/// The cells of these keys.
+fn cells_of(alloc: Global, cells: &[Cell], keys: &[Key]) -> Result<Vec<NewCell>, AllocError>
+    requires { All (λ key. key.number < length cells.now) keys.now }
+    ensures { IfOk result (λ listed. listed.items ≡ map (cell_at cells.now) keys.now) }
+{
     let mut listed = Vec::with_capacity(alloc, keys.len())?;
-    for key in &keys {
+    for key in keys {
         listed.push(new_cell(&cells[key.number]))?;
     }
     Ok(listed)
@@ -57,7 +64,7 @@ fn in_order(alloc: Global, cells: &[Cell]) -> Result<Vec<NewCell>, AllocError>
 
 /// A cell under its hash.
 fn new_cell(cell: &Cell) -> NewCell
-    ensures { result ≡ record { hash = rep_of_info cell.now.info; face = cell.now.face } }
+    ensures { result ≡ listed_cell cell.now }
 {
     NewCell {
         hash: cell.info.rep(),

@@ -1,9 +1,7 @@
 ghost use Rattle.std.specs.Prelude.{◌≡◌, ◌+◌, ◌-◌, ◌*◌, ◌^◌, ◌≤◌, ◌<◌, ℕ, true, false, [], ◌∷◌, ◌++◌, length, IfOk};
-ghost use Rattle.std.specs.Int.{w16, to_be_bytes};
-ghost use Rattle.cd_cell.specs.Infos.{info_hash, info_depth};
 ghost use Rattle.cd_cell.specs.Tree.{Tree, info_of};
-ghost use Rattle.cd_gen.specs.States.{sha, bits_of, over, is_written, writer_of, some_written, full, shown};
-ghost use Rattle.cd_gen.specs.Listing.{infos_of, IsListed, IsKept};
+ghost use Rattle.cd_gen.specs.States.{sha, over, is_written, writer_of, some_written, full, shown};
+ghost use Rattle.cd_gen.specs.Listing.{hash_bytes, depth_bytes, pruned_face, update_face, infos_of, IsListed, IsKept};
 
 use crate::cell::Cell;
 use crate::cells::{keep, list};
@@ -71,7 +69,7 @@ impl View {
 
 /// The contents of a pruned branch of mask 1 in the place of a cell that shows this.
 fn pruned_text(info: &ChildInfo) -> [u8; 36]
-    ensures { result ≡ 1 ∷ 1 ∷ (let hash = info_hash info.now 0 in hash.0) ++ to_be_bytes w16 (info_depth info.now 0) }
+    ensures { result ≡ 1 ∷ 1 ∷ hash_bytes info.now ++ depth_bytes info.now }
 {
     let mut bytes = [0; 36];
     bytes[0] = 1;
@@ -83,16 +81,14 @@ fn pruned_text(info: &ChildInfo) -> [u8; 36]
 
 /// A pruned branch in the place of a cell that shows this.
 fn pruned(info: &ChildInfo) -> Face
-    ensures { result ≡ record { exotic = true; bits = bits_of
-        (1 ∷ 1 ∷ (let hash = info_hash info.now 0 in hash.0) ++ to_be_bytes w16 (info_depth info.now 0)); kids = [] } }
+    ensures { result ≡ pruned_face info.now }
 {
     Face::new(true, bits_of(&pruned_text(info)), &[])
 }
 
 /// The contents of a Merkle update: the hashes of both halves, then their depths.
 fn update_text(old: &ChildInfo, new: &ChildInfo) -> [u8; 69]
-    ensures { result ≡ 4 ∷ (let hash = info_hash old.now 0 in hash.0) ++ (let hash = info_hash new.now 0 in hash.0)
-        ++ to_be_bytes w16 (info_depth old.now 0) ++ to_be_bytes w16 (info_depth new.now 0) }
+    ensures { result ≡ 4 ∷ hash_bytes old.now ++ hash_bytes new.now ++ depth_bytes old.now ++ depth_bytes new.now }
 {
     let mut bytes = [0; 69];
     bytes[0] = 4;
@@ -105,9 +101,7 @@ fn update_text(old: &ChildInfo, new: &ChildInfo) -> [u8; 69]
 
 /// The Merkle update between two halves.
 pub fn update(old: &ChildInfo, new: &ChildInfo) -> Face
-    ensures { result ≡ record { exotic = true; bits = bits_of (4 ∷ (let hash = info_hash old.now 0 in hash.0)
-        ++ (let hash = info_hash new.now 0 in hash.0) ++ to_be_bytes w16 (info_depth old.now 0)
-        ++ to_be_bytes w16 (info_depth new.now 0)); kids = old.now ∷ new.now ∷ [] } }
+    ensures { result ≡ update_face old.now new.now }
 {
     Face::new(true, bits_of(&update_text(old, new)), &[*old, *new])
 }
