@@ -147,3 +147,32 @@ kept-pair (Ok info) left right face a b c d l k first second is kept root =
       root = whole;
     }
 kept-pair (Err e) left right face a b c d l k first second is kept root = tt
+
+-- ---- cells that alone are listed
+
+pub map-reverse : {A B : Type 0} (f : A → B) (xs : List A) → map f (reverse xs) ≡ reverse (map f xs)
+map-reverse f [] = refl
+map-reverse f (x ∷ xs) =
+    ap (map f) (reverse-append (x ∷ []) xs)
+    ∙ map-append f (reverse xs) (x ∷ [])
+    ∙ ap (λ ys. ys ++ f x ∷ []) (map-reverse f xs)
+    ∙ sym (reverse-append (f x ∷ []) (map f xs))
+
+infos-by_faces : (cells : List Cell) → map (λ (c : Cell). c.info) cells ≡ map (info_of_face sha) (faces cells)
+infos-by_faces [] = refl
+infos-by_faces (c ∷ cells) = ap₂ (λ x xs. x ∷ xs) c.shows (infos-by_faces cells)
+
+infos-by_trees : (ts : List Tree) → map (info_of_face sha) (map (face_of sha) ts) ≡ map (info_of sha) ts
+infos-by_trees [] = refl
+infos-by_trees (t ∷ ts) = ap₂ (λ x xs. x ∷ xs) (info_of-face t) (infos-by_trees ts)
+
+pub first-listed : (t : Tree) (old new : List Cell) (info : ChildInfo) → old ≡ [] → IsListed t old new info → faces new ≡ faces_of t
+first-listed t old new info none listed = listed.cells ∙ ap (λ cells. faces cells ++ faces_of t) none
+
+pub first-infos : (t : Tree) (cells : List Cell) → faces cells ≡ faces_of t → map (λ (c : Cell). c.info) cells ≡ infos_of t
+unfolding turned
+first-infos t cells listed =
+    infos-by_faces cells
+    ∙ ap (map (info_of_face sha)) listed
+    ∙ map-reverse (info_of_face sha) (map (face_of sha) (subtrees t))
+    ∙ ap reverse (infos-by_trees (subtrees t))

@@ -5,7 +5,7 @@ use Rattle.std.specs.Cmp.{IsTotalOrder}
 use Rattle.std.proofs.lemmas.Bool.{cases_lt}
 use Rattle.std.proofs.lemmas.Bool.Decides.{nat_tests}
 use Rattle.std.proofs.lemmas.Cmp.{then_total, back_total, on_total, nat_cmp_total, tied_itself}
-use Rattle.std.proofs.lemmas.List.{length-map, length-reverse, reverse-append, reverse-reverse, map-append, get_or-map, get_or-reverse, get_or_default, get_or_append_left, get_or_push, length_push}
+use Rattle.std.proofs.lemmas.List.{length-map, length-reverse, reverse-reverse, get_or-map, get_or-reverse, get_or_default, get_or_append_left, get_or_push, length_push}
 use Rattle.std.proofs.lemmas.List.Elements.{Contains-get_or}
 use Rattle.cd_base.specs.declared.hash.Hash256.{Hash256}
 use Rattle.cd_cell.specs.declared.info.ChildInfo.{ChildInfo}
@@ -28,6 +28,7 @@ use Rattle.cd_gen.specs.States.{sha}
 use Rattle.cd_gen.specs.Listing.{turned, faces, faces_of}
 use Rattle.cd_gen.specs.Keys.{place_cmp, key_of, listed_cell, cell_at, AreKeys, AreFirst}
 use Rattle.cd_gen.proofs.KeyLaws.{place_cmp-total}
+use Rattle.cd_gen.proofs.ListingLaws.{map-reverse}
 
 -- ---- sorted lists without ties, by their last elements
 
@@ -113,7 +114,7 @@ place_at c = record { lowness = 65535 - height_of_face c.face; hash = c.hash }
 abbrev key_at : List NewCell → ℕ → Key
 key_at cs n = record { place = place_at (listed_at cs n); number = n }
 
-abbrev no_key : Key
+abbrev pub no_key : Key
 no_key = record { place = record { lowness = 0; hash = no_hash }; number = 0 }
 
 -- a cell with a good face under the hash of it
@@ -247,14 +248,6 @@ by-tree (cell exotic bits ts) = refl
 all-by_tree : (ts : List Tree) → map cell_with (map (face_of sha) ts) ≡ map (new_cell_of sha) ts
 all-by_tree [] = refl
 all-by_tree (t ∷ ts) = ap₂ (λ x xs. x ∷ xs) (by-tree t) (all-by_tree ts)
-
-map-reverse : {A B : Type 0} (f : A → B) (xs : List A) → map f (reverse xs) ≡ reverse (map f xs)
-map-reverse f [] = refl
-map-reverse f (x ∷ xs) =
-    ap (map f) (reverse-append (x ∷ []) xs)
-    ∙ map-append f (reverse xs) (x ∷ [])
-    ∙ ap (λ ys. ys ++ f x ∷ []) (map-reverse f xs)
-    ∙ sym (reverse-append (f x ∷ []) (map f xs))
 
 module _ (cells : List Cell) (old new : List Key) (keys : AreKeys (map (λ (c : Cell). c.info) cells) old (length cells)) (first : AreFirst old new) where
   long : length cells ≡ length (map listed_cell cells)

@@ -90,7 +90,8 @@ fn update_of(alloc: Global, state: &[ChildInfo], block: &Block) -> Result<Bytes,
     let mut cells = Vec::with_capacity(alloc, STATE_CELLS)?;
     let new = list_shown(&mut cells, state, &new, LEVELS, 0)?;
     let old = list_shown(&mut cells, state, &old, LEVELS, 0)?;
-    list(&mut cells, update(&old, &new))?;
+    let face = update(alloc, &old, &new)?;
+    list(&mut cells, face)?;
     bag_of(alloc, &cells)
 }
 

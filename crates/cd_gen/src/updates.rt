@@ -8,6 +8,7 @@ use crate::cells::{keep, list};
 use crate::states::{Owner, bits_of, inner, leaf, leaves_under};
 use cd_base::Memory;
 use cd_cell::{ChildInfo, Face};
+use std::alloc::{AllocError, Global};
 
 /// The block of a seqno, which writes each sixteenth leaf of its chain's state.
 #[derive(Clone, Copy)]
@@ -87,23 +88,26 @@ fn pruned(info: &ChildInfo) -> Face
 }
 
 /// The contents of a Merkle update: the hashes of both halves, then their depths.
-fn update_text(old: &ChildInfo, new: &ChildInfo) -> [u8; 69]
-    ensures { result ≡ 4 ∷ hash_bytes old.now ++ hash_bytes new.now ++ depth_bytes old.now ++ depth_bytes new.now }
+fn update_text(alloc: Global, old: &ChildInfo, new: &ChildInfo) -> Result<Vec<u8>, AllocError>
+    ensures text { IfOk result (λ text. text.items
+        ≡ 4 ∷ hash_bytes old.now ++ hash_bytes new.now ++ depth_bytes old.now ++ depth_bytes new.now) }
+    ensures long { IfOk result (λ text. length text.items ≡ 69) }
 {
-    let mut bytes = [0; 69];
-    bytes[0] = 4;
-    bytes[65..67].copy_from_slice(&old.depths[0].to_be_bytes());
-    bytes[67..].copy_from_slice(&new.depths[0].to_be_bytes());
-    bytes[1..33].copy_from_slice(&old.hashes[0].0);
-    bytes[33..65].copy_from_slice(&new.hashes[0].0);
-    bytes
+    let mut text = Vec::with_capacity(alloc, 69)?;
+    text.push(4)?;
+    text.extend_from_slice(&old.hashes[0].0)?;
+    text.extend_from_slice(&new.hashes[0].0)?;
+    text.extend_from_slice(&old.depths[0].to_be_bytes())?;
+    text.extend_from_slice(&new.depths[0].to_be_bytes())?;
+    Ok(text)
 }
 
 /// The Merkle update between two halves.
-pub fn update(old: &ChildInfo, new: &ChildInfo) -> Face
-    ensures { result ≡ update_face old.now new.now }
+pub fn update(alloc: Global, old: &ChildInfo, new: &ChildInfo) -> Result<Face, AllocError>
+    ensures { IfOk result (λ face. face ≡ update_face old.now new.now) }
 {
-    Face::new(true, bits_of(&update_text(old, new)), &[*old, *new])
+    let text = update_text(alloc, old, new)?;
+    Ok(Face::new(true, bits_of(&text), &[*old, *new]))
 }
 
 /// What the root of a tree shows, by what its cells show.

@@ -42,8 +42,8 @@ returns-then-levels-eq0 t c =
     let some = asked number block.seqno first (2 ^ levels) c.leaves_under.result c.writes_some.result true c.writes_some.ensures c.leaves_under.ensures c.if-not-writes_some.false in
     let tree : shown number chain block.seqno view.seqno levels first ≡ leaf number chain first view.writer =
     shown-leaf number chain block.seqno view.seqno levels first c.if-levels-eq0.true some ∙ ap (leaf number chain first) (view.written first (one_written (is_written number block.seqno) first here)) in
-    subst (λ (x : Tree). IfOk c.list-2.result (λ info. IsListed x c.args.cells.now.items c.list-2.new.cells.items info)) (sym tree)
-    (listed-alone c.list-2.result false (bits_of (leaf_text number chain first view.writer)) c.leaf.result c.args.cells.now.items c.list-2.new.cells.items c.leaf.ensures c.list-2.ensures.listed c.list-2.ensures.info)
+    subst (λ (x : Tree). IfOk c.list-then-levels-eq0.result (λ info. IsListed x c.args.cells.now.items c.list-then-levels-eq0.new.cells.items info)) (sym tree)
+    (listed-alone c.list-then-levels-eq0.result false (bits_of (leaf_text number chain first view.writer)) c.leaf.result c.args.cells.now.items c.list-then-levels-eq0.new.cells.items c.leaf.ensures c.list-then-levels-eq0.ensures.listed c.list-then-levels-eq0.ensures.info)
 
 pub halves-requires-clause-long : goal.halves-requires-clause-long
 halves-requires-clause-long t c =
@@ -95,6 +95,6 @@ returns t c =
     let below = levels - 1 in
     let half : ℕ → Tree = shown number chain block.seqno view.seqno below in
     let right = subst (λ (k : ℕ). IsListed (half (first + k)) c.args.cells.now.items c.list_shown.new.cells.items c.in_ok-right.right) c.leaves_under-2.ensures c.in_ok-right.ensures in
-    subst (λ (x : Tree). IfOk c.list-3.result (λ info. IsListed x c.args.cells.now.items c.list-3.new.cells.items info)) (sym (shown-over number chain block.seqno view.seqno levels first (omega arith) some))
-    (listed-pair c.list-3.result false [] (half first) (half (first + 2 ^ below)) c.inner.result c.args.cells.now.items c.list_shown.new.cells.items c.list_shown-2.new.cells.items c.list-3.new.cells.items c.in_ok-left.left c.in_ok-right.right
-    right c.in_ok-left.ensures c.inner.ensures c.list-3.ensures.listed c.list-3.ensures.info)
+    subst (λ (x : Tree). IfOk c.list-2.result (λ info. IsListed x c.args.cells.now.items c.list-2.new.cells.items info)) (sym (shown-over number chain block.seqno view.seqno levels first (omega arith) some))
+    (listed-pair c.list-2.result false [] (half first) (half (first + 2 ^ below)) c.inner.result c.args.cells.now.items c.list_shown.new.cells.items c.list_shown-2.new.cells.items c.list-2.new.cells.items c.in_ok-left.left c.in_ok-right.right
+    right c.in_ok-left.ensures c.inner.ensures c.list-2.ensures.listed c.list-2.ensures.info)
