@@ -114,7 +114,7 @@ place_at c = record { lowness = 65535 - height_of_face c.face; hash = c.hash }
 abbrev key_at : List NewCell → ℕ → Key
 key_at cs n = record { place = place_at (listed_at cs n); number = n }
 
-abbrev pub no_key : Key
+abbrev no_key : Key
 no_key = record { place = record { lowness = 0; hash = no_hash }; number = 0 }
 
 -- a cell with a good face under the hash of it
