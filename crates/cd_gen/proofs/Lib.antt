@@ -1,2 +1,5 @@
-pub mod GenLaws
+pub mod ListingLaws
+pub mod WriterLaws
+pub mod KeyLaws
+pub mod OrderLaws
 pub mod PhaseLaws

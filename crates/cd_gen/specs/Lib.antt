@@ -1,2 +1,4 @@
 pub mod States
 pub mod Generated
+pub mod Listing
+pub mod Keys

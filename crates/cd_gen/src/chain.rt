@@ -1,28 +1,33 @@
-ghost use Rattle.std.specs.Prelude.{◌≡◌, IfOk};
-ghost use Rattle.std.specs.Vec.{vec_len};
+ghost use Rattle.std.specs.Prelude.{◌≡◌, ◌+◌, ◌-◌, IfOk, OnOk};
 ghost use Rattle.cd_feed.specs.Feeds.{IsBagFit};
-ghost use Rattle.cd_gen.specs.States.{zero_root};
-ghost use Rattle.cd_gen.specs.Generated.{IsExport};
-ghost use Rattle.cd_gen.specs.declared.states.TheConstants.{NODES};
+ghost use Rattle.cd_gen.specs.States.{state_of, zero_root};
+ghost use Rattle.cd_gen.specs.Listing.{infos_of};
+ghost use Rattle.cd_gen.specs.Generated.{zero_bag, update_bag};
 
-use crate::cells::bag_of;
-use crate::states::{NODES, Owner, list_full};
-use crate::updates::{list_all_hidden, list_shown, list_update, take_over};
+use crate::cells::{infos_of, list};
+use crate::export::bag_of;
+use crate::states::{Owner, list_full};
+use crate::updates::{Block, View, keep_state, list_shown, update};
 use cd_base::{Hash256, Memory};
 use cd_cell::ChildInfo;
 use cd_feed::Bytes;
 use std::alloc::Global;
 
+/// The number of cells of a state.
+const STATE_CELLS: usize = 1023;
+
+/// The levels of a state over its leaves.
+const LEVELS: u32 = 9;
+
 /// A chain of blocks, by its newest state.
 #[derive(Drop)]
 pub struct Chain {
-    owner: Owner,
-    /// What the nodes of the state show.
+    pub owner: Owner,
+    /// The seqno of the newest state.
+    pub seqno: u32,
+    /// What the cells of the newest state show.
     state: Vec<ChildInfo>,
-    /// What the nodes of an update's half show.
-    shown: Vec<ChildInfo>,
-    ghost state_nodes: { vec_len state ≡ NODES },
-    ghost shown_nodes: { vec_len shown ≡ NODES },
+    ghost state_is: { state.items ≡ infos_of (state_of owner.number owner.chain seqno) },
 }
 
 /// The root hash of a zero state, and its bag.
@@ -34,23 +39,22 @@ pub struct ZeroState {
 
 impl Chain {
     /// A chain behind its zero state, which is answered too.
-    #[tactic(auto, unfolding(crate::specs::States::zero_root))]
     pub fn start(alloc: Global, owner: Owner) -> Result<(Chain, ZeroState), Memory>
+        ensures owner { IfOk result (λ x. x.0.owner ≡ owner) }
+        ensures seqno { IfOk result (λ x. x.0.seqno ≡ 0) }
         ensures root { IfOk result (λ x. x.1.root ≡ zero_root owner.number owner.chain) }
-        ensures bag { IfOk result (λ x. IsBagFit x.1.bag) }
-        ensures export { IfOk result (λ x. IsExport x.1.bag) }
+        ensures short { IfOk result (λ x. IsBagFit x.1.bag) }
+        ensures bag { IfOk result (λ x. x.1.bag ≡ zero_bag owner.number owner.chain) }
     {
-        let mut state = vec![in alloc; ChildInfo::NONE; NODES]?;
-        let shown = vec![in alloc; ChildInfo::NONE; NODES]?;
-        let mut cells = Vec::with_capacity(alloc, NODES)?;
-        let info = list_full(&mut cells, &mut state, owner, 9, 0)?;
-        let root = info.rep();
+        let mut cells = Vec::with_capacity(alloc, STATE_CELLS)?;
+        let root = list_full(&mut cells, owner, LEVELS, 0)?.rep();
+        let state = infos_of(alloc, &cells)?;
         let bag = bag_of(alloc, &cells)?;
         Ok((
             Chain {
                 owner,
+                seqno: 0,
                 state,
-                shown,
             },
             ZeroState { root, bag },
         ))
@@ -58,25 +62,45 @@ impl Chain {
 
     /// Goes on by the block of this seqno, and answers the bag of its update.
     pub fn go_on(&mut self, alloc: Global, seqno: u32) -> Result<Bytes, Memory>
+        requires { self.old.seqno + 1 ≡ seqno }
+        ensures owner { self.new.owner ≡ self.old.owner }
+        ensures seqno { OnOk result (self.new.seqno ≡ seqno) }
         ensures short { IfOk result (λ bag. IsBagFit bag) }
-        ensures export { IfOk result (λ bag. IsExport bag) }
+        ensures bag { IfOk result (λ bag. bag ≡ update_bag self.old.owner.number self.old.owner.chain seqno) }
     {
-        let owner = self.owner;
-        let rest = ((u64::from(seqno) + owner.number % 16) % 16) as usize;
-        let mut cells = Vec::with_capacity(alloc, NODES)?;
-        list_all_hidden(&mut cells, &self.state, &mut self.shown, rest)?;
-        list_shown(
-            &mut cells,
-            &mut self.shown,
-            owner,
-            rest,
-            seqno.saturating_sub(16),
-        )?;
-        let old = self.shown[1];
-        list_shown(&mut cells, &mut self.shown, owner, rest, seqno)?;
-        let new = self.shown[1];
-        list_update(&mut cells, &old, &new)?;
-        take_over(&mut self.state, &self.shown, rest);
-        bag_of(alloc, &cells)
+        let block = Block {
+            owner: self.owner,
+            seqno,
+        };
+        let bag = update_of(alloc, &self.state, &block)?;
+        self.state = state_after(alloc, &self.state, &block)?;
+        self.seqno = seqno;
+        Ok(bag)
     }
+}
+
+/// The bag of a block's update. `state` is what the cells of the state before show.
+fn update_of(alloc: Global, state: &[ChildInfo], block: &Block) -> Result<Bytes, Memory>
+    requires { state.now ≡ infos_of (state_of block.now.owner.number block.now.owner.chain (block.now.seqno - 1)) }
+    ensures short { IfOk result (λ bag. IsBagFit bag) }
+    ensures bag { IfOk result (λ bag. bag ≡ update_bag block.now.owner.number block.now.owner.chain block.now.seqno) }
+{
+    let old = View::before(block);
+    let new = View::after(block);
+    let mut cells = Vec::with_capacity(alloc, STATE_CELLS)?;
+    let new = list_shown(&mut cells, state, &new, LEVELS, 0)?;
+    let old = list_shown(&mut cells, state, &old, LEVELS, 0)?;
+    let face = update(alloc, &old, &new)?;
+    list(&mut cells, face)?;
+    bag_of(alloc, &cells)
+}
+
+/// What the cells of a block's state show, by those of the state before.
+fn state_after(alloc: Global, state: &[ChildInfo], block: &Block) -> Result<Vec<ChildInfo>, Memory>
+    requires { state.now ≡ infos_of (state_of block.now.owner.number block.now.owner.chain (block.now.seqno - 1)) }
+    ensures { IfOk result (λ infos. infos.items ≡ infos_of (state_of block.now.owner.number block.now.owner.chain block.now.seqno)) }
+{
+    let mut infos = Vec::with_capacity(alloc, STATE_CELLS)?;
+    keep_state(&mut infos, state, block, LEVELS, 0)?;
+    Ok(infos)
 }

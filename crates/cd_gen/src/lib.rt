@@ -1,9 +1,12 @@
 //! A generator of feeds: three chains of blocks over states of one shape, with readers, slices and expiries.
 #![tactic(auto)]
 
+mod cell;
 mod cells;
 mod chain;
+mod export;
 mod generator;
+mod key;
 mod names;
 mod phases;
 mod states;

@@ -1,7 +1,7 @@
 ghost use Rattle.std.specs.Prelude.{◌≡◌, ◌+◌, ◌-◌, ◌*◌, ◌/◌, ◌%◌, ◌^◌, ◌≤◌, [], ◌∷◌, IfOk};
-ghost use Rattle.cd_feed.specs.declared.feed.Task.TheVariants.{Zero};
 ghost use Rattle.cd_feed.specs.Feeds.{IsBagFit};
 ghost use Rattle.cd_gen.specs.Generated as spec;
+ghost use Rattle.cd_gen.specs.Generated.{zero_bag, update_bag};
 
 use crate::names::Names;
 use cd_base::Memory;
@@ -39,7 +39,10 @@ fn shard_blocks(alloc: Global, names: &Names, seqno: u32) -> Result<BlockIds, Al
 /// The phase of the zero states.
 #[tactic(auto, unfolding(crate::specs::Generated::zero_phase))]
 pub fn zero_phase(alloc: Global, names: &Names, bags: BlockBags) -> Result<Phase, Memory>
-    ensures { IfOk result (λ phase. phase ≡ spec.zero_phase names.now.number bags.master bags.left bags.right) }
+    requires master { bags.master ≡ zero_bag names.now.number 0 }
+    requires left { bags.left ≡ zero_bag names.now.number 1 }
+    requires right { bags.right ≡ zero_bag names.now.number 2 }
+    ensures { IfOk result (λ phase. phase ≡ spec.zero_phase names.now.number) }
 {
     let BlockBags {
         master,
@@ -59,8 +62,9 @@ pub fn zero_phase(alloc: Global, names: &Names, bags: BlockBags) -> Result<Phase
 }
 
 fn zero_task(names: &Names, chain: u8, tops: BlockIds, bag: Bytes) -> Task
-    requires { chain ≤ 2 }
-    ensures { result ≡ Zero (spec.block_id names.now.number chain 0) tops bag }
+    requires chain { chain ≤ 2 }
+    requires bag { bag ≡ zero_bag names.now.number chain }
+    ensures { result ≡ spec.zero_task names.now.number chain tops }
 {
     Task::Zero {
         id: names.block(chain, 0),
@@ -86,8 +90,9 @@ fn block_worker(
     tops: BlockIds,
     bag: Bytes,
 ) -> Result<Tasks, Memory>
-    requires { chain ≤ 2 }
-    ensures { IfOk result (λ tasks. tasks ≡ spec.block_task names.now.number chain seqno tops bag ∷ []) }
+    requires chain { chain ≤ 2 }
+    requires bag { bag ≡ update_bag names.now.number chain seqno }
+    ensures { IfOk result (λ tasks. tasks ≡ spec.block_task names.now.number chain seqno tops ∷ []) }
 {
     let task = Task::Block {
         id: names.block(chain, seqno),
@@ -101,7 +106,8 @@ fn block_worker(
 /// A block of the masterchain, whose tops are the shards' blocks of the same seqno.
 #[tactic(auto, unfolding(crate::specs::Generated::master_tasks))]
 fn master_worker(alloc: Global, names: &Names, seqno: u32, bag: Bytes) -> Result<Tasks, Memory>
-    ensures { IfOk result (λ tasks. tasks ≡ spec.master_tasks names.now.number seqno bag) }
+    requires { seqno ≤ LAST_MASTER → bag ≡ update_bag names.now.number 0 seqno }
+    ensures { IfOk result (λ tasks. tasks ≡ spec.master_tasks names.now.number seqno) }
 {
     if seqno > LAST_MASTER {
         return Ok(Tasks::new(alloc));
@@ -171,8 +177,11 @@ pub fn block_phase(
     seqno: u32,
     bags: BlockBags,
 ) -> Result<Phase, Memory>
-    requires { seqno ≤ 67 }
-    ensures { IfOk result (λ phase. phase ≡ spec.block_phase names.now.number seqno bags.master bags.left bags.right) }
+    requires seqno { seqno ≤ 67 }
+    requires master { seqno ≤ LAST_MASTER → bags.master ≡ update_bag names.now.number 0 seqno }
+    requires left { bags.left ≡ update_bag names.now.number 1 seqno }
+    requires right { bags.right ≡ update_bag names.now.number 2 seqno }
+    ensures { IfOk result (λ phase. phase ≡ spec.block_phase names.now.number seqno) }
 {
     let BlockBags {
         master,

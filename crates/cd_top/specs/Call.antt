@@ -13,16 +13,22 @@ use Rattle.cd_top.specs.declared.status.Status.{Status}
 use Rattle.cd_top.specs.declared.status.Status.TheVariants as status
 use Rattle.cd_top.specs.declared.zero.ZeroName.{ZeroName}
 use Rattle.cd_top.specs.ZeroCall.{AreSame, ZeroEnds}
+use Rattle.cd_top.specs.FeedCall.{FeedEnds}
 
 -- the words are the command `zero` without a database, and say this of the block's name
 abbrev pub IsZeroLine : ZeroName → List (List ℕ) → Type 0
 IsZeroLine name words = HasCommand words (command.Zero name.workchain name.file None)
 
+-- the words are the command `gen`, and say this number of a feed
+abbrev pub IsGenLine : ℕ → List (List ℕ) → Type 0
+IsGenLine number words = HasCommand words (command.Gen number)
+
 -- why the words are not taken: they are no command, or a value in them is none that its option may have; or they are
 -- a command whose work isn't there yet, which is a usage fault too
 pub record IsNotTaken (words : List (List ℕ)) (fault : WordFault) : Type 0 where
   pub cause : IsRefusal words fault ⊎ ((fault ≡ word.Usage) × (other : Command) × HasCommand words other)
-  pub none : (name : ZeroName) → ¬ IsZeroLine name words
+  pub no_zero : (name : ZeroName) → ¬ IsZeroLine name words
+  pub no_gen : (number : ℕ) → ¬ IsGenLine number words
 
 -- the status for words that are refused
 abbrev pub status_by : WordFault → Status
@@ -41,5 +47,7 @@ module _ (H : List ℕ → Hash256) {S O K : Type 0} (s : SourceGhosts S) (o : S
   pub record Ends (words : List (List ℕ)) (i j : S) (out out_after : O) (keeper keeper_after : K) (end : Status) : Type 0 where
     pub zero : (name : ZeroName) → IsZeroLine name words
         → ZeroEnds H s o k name i j out out_after keeper keeper_after end
-    pub other : ((name : ZeroName) → ¬ IsZeroLine name words)
+    pub gen : (number : ℕ) → IsGenLine number words
+        → FeedEnds o number out out_after end × (j ≡ i) × (keeper_after ≡ keeper)
+    pub other : ((name : ZeroName) → ¬ IsZeroLine name words) → ((number : ℕ) → ¬ IsGenLine number words)
         → EndsUntaken words end × (j ≡ i) × AreSame out out_after keeper keeper_after

@@ -2,11 +2,13 @@
 #![tactic(auto)]
 
 mod counts;
+mod feed;
 mod limits;
 mod once;
 mod order;
 mod records;
 mod status;
+mod work;
 mod zero;
 
 pub use cd_words::WordFault;

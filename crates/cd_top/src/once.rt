@@ -1,21 +1,21 @@
-ghost use Rattle.std.specs.Prelude.{◌≡◌, ◌≢◌, None, ◌≤◌, length, IfOk, IfErr, IfSome, map, string_bytes};
+ghost use Rattle.std.specs.Prelude.{◌≡◌, ◌≤◌, length, IfOk, IfErr, IfSome, map, string_bytes};
 ghost use Rattle.cd_cell.specs.Tree.{Tree};
 ghost use Rattle.cd_keeper.specs.Contents.{no_contents};
 ghost use Rattle.cd_top.specs.Zero.{IsListOf, IsPlanOf, IsStateFault, status_of};
-ghost use Rattle.cd_top.specs.declared.zero.ZeroName.{ZeroName};
-ghost use Rattle.cd_top.specs.Call as spec;
-ghost use Rattle.cd_top.specs.Call.{IsZeroLine, EndsUntaken, Ends};
+ghost use Rattle.cd_top.specs.Call.{Ends};
+ghost use Rattle.cd_top.specs.Work.{WorkEnds};
 ghost use Rattle.cd_top.specs.ZeroCall.{IsStateBag, IsRefusal, IsStoring, ZeroEnds};
 
+use crate::feed::print_feed;
 use crate::limits::INPUT_LIMIT;
 use crate::status::{InputFault, Status, TopRefusal};
+use crate::work::{Work, work_of};
 use crate::zero::{Plan, ZeroName, plan_zero};
 use cd_base::{ReadAllFault, Sink, Source, read_all, write_all};
 use cd_boc_read::{BagFault, read_bag};
 use cd_cell::{Hash32, MOST_CELLS, Prepared};
 use cd_keeper::{KeepFault, Keeper};
 use cd_prepare::{PrepareFault, prepare_zero};
-use cd_words::{Command, WordFault, read_words};
 use std::alloc::Global;
 use std::marker::PhantomData;
 
@@ -39,43 +39,6 @@ impl<K, H> Ended<K, H> {
             keeper,
             of: PhantomData,
         }
-    }
-}
-
-/// What a command says of a zero state's name, or the status of a call over another command.
-fn name_in(command: Command) -> Result<ZeroName, Status>
-    ensures found { IfOk result (λ name. command ≡ Command.Zero name.workchain name.file None) }
-    ensures other { IfErr result (λ status. (status ≡ Status.Usage WordFault.Usage)
-        × ((name : ZeroName) → command ≢ Command.Zero name.workchain name.file None)) }
-{
-    match command {
-        Command::Zero {
-            workchain,
-            file,
-            db: None,
-        } => Ok(ZeroName { workchain, file }),
-        _ => Err(Status::Usage(WordFault::Usage)),
-    }
-}
-
-/// The status of a call over words that are refused.
-fn status_by(fault: WordFault) -> Status
-    ensures { result ≡ spec.status_by fault }
-{
-    match fault {
-        WordFault::Memory => Status::Memory,
-        WordFault::Usage | WordFault::BadValue { .. } => Status::Usage(fault),
-    }
-}
-
-/// What the words of `zero` say of the block's name, or the status of a call over other words.
-fn name_of(alloc: Global, words: &[String]) -> Result<ZeroName, Status>
-    ensures found { IfOk result (λ name. IsZeroLine name (map string_bytes words.now)) }
-    ensures other { IfErr result (EndsUntaken (map string_bytes words.now)) }
-{
-    match read_words(alloc, words) {
-        Ok(command) => name_in(command),
-        Err(fault) => Err(status_by(fault)),
     }
 }
 
@@ -145,9 +108,10 @@ fn store<O: Sink, K: Keeper, H: Hash32>(plan: &Plan, out: &mut O, mut keeper: K)
     }
 }
 
-/// One call of the program: `words` are the words behind its name. Of the commands `zero` without a database is done so
-/// far: it reads a bag of cells to the end of the input, stores the state as a zero state in one batch, and writes the
-/// block's name and the number of its cells. The others are a usage fault, and nothing is asked of the objects.
+/// One call of the program: `words` are the words behind its name. Two commands are done so far. `zero` without a
+/// database reads a bag of cells to the end of the input, stores the state as a zero state in one batch, and writes the
+/// block's name and the number of its cells. `gen` writes the text of the feed of a number, and asks nothing of the input
+/// and the keeper. The others are a usage fault, and nothing is asked of the objects.
 ///
 /// Want of memory alone is free; what each other status says stands in `Ends`.
 pub fn celldb_once<S: Source, O: Sink, K: Keeper, H: Hash32>(
@@ -161,9 +125,27 @@ pub fn celldb_once<S: Source, O: Sink, K: Keeper, H: Hash32>(
     ensures { Ends H.digest_of S.Source O.Sink K.Keeper (map string_bytes words.now)
         input.old input.new out.old out.new keeper result.keeper result.status }
 {
-    match name_of(alloc, words) {
-        Ok(name) => zero(alloc, name, input, out, keeper),
+    match work_of(alloc, words) {
+        Ok(work) => work_on(alloc, work, input, out, keeper),
         Err(status) => Ended::of(status, keeper),
+    }
+}
+
+/// Does what the words ask for.
+fn work_on<S: Source, O: Sink, K: Keeper, H: Hash32>(
+    alloc: Global,
+    work: Work,
+    input: &mut S,
+    out: &mut O,
+    keeper: K,
+) -> Ended<K, H>
+    requires empty { IfSome (K.held keeper) (λ contents. contents ≡ no_contents) }
+    ensures { WorkEnds H.digest_of S.Source O.Sink K.Keeper work input.old input.new out.old out.new
+        keeper result.keeper result.status }
+{
+    match work {
+        Work::Zero(name) => zero(alloc, name, input, out, keeper),
+        Work::Gen(number) => Ended::of(print_feed(alloc, number, out), keeper),
     }
 }
 

@@ -12,7 +12,7 @@ use Rattle.cd_words.specs.declared.fault.WordFault.TheVariants as fault
 use Rattle.cd_words.specs.Lines.{Text, Line}
 use Rattle.cd_words.specs.Reading.{HasCommand, IsRefusal}
 use Rattle.cd_words.specs.Spelling.{IsNumber}
-use Rattle.cd_words.specs.Values.{AreSpelt, WorkchainIs, FileIs, Spells}
+use Rattle.cd_words.specs.Values.{AreSpelt, WorkchainIs, FileIs, NumberIs, Spells}
 use Rattle.cd_words.proofs.ValueLaws.{none_bad}
 
 some_is : {A : Type 0} (x y : A) → Some x ≡ Some y → x ≡ y
@@ -53,6 +53,24 @@ zero_spelt line w f (is.Migrate db) a b = absurd (let e = sym a.0 ∙ b.0 in cc)
 pub zero_alone : (words : List Text) (w : ℤ) (f : Hash256) (c : Command) → HasCommand words (is.Zero w f None) → HasCommand words c → c ≡ is.Zero w f None
 zero_alone words w f c a b =
     zero_spelt a.0 w f c a.2 (subst (λ l. Spells l c) (some_is b.0 a.0 (sym b.1.line_is ∙ a.1.line_is)) b.2)
+
+feed_number_is : (text : Option Text) (m n : ℕ) → NumberIs text m → NumberIs text n → m ≡ n
+feed_number_is None m n a b = absurd a
+feed_number_is (Some text) m n a b = number_is 18446744073709551615 text m n (omega arith) a b
+
+gen_spelt : (line : Line) (n : ℕ) (c : Command) → Spells line (is.Gen n) → Spells line c → c ≡ is.Gen n
+gen_spelt line n (is.Gen m) a b = ap (λ k. is.Gen k) (feed_number_is _ m n b.1 a.1)
+gen_spelt line n (is.Zero w f db) a b = absurd (let e = sym a.0 ∙ b.0 in cc)
+gen_spelt line n (is.Replay db to) a b = absurd (let e = sym a.0 ∙ b.0 in cc)
+gen_spelt line n (is.Run db to) a b = absurd (let e = sym a.0 ∙ b.0 in cc)
+gen_spelt line n (is.Check db) a b = absurd (let e = sym a.0 ∙ b.0 in cc)
+gen_spelt line n (is.Export id max db to) a b = absurd (let e = sym a.0 ∙ b.0 in cc)
+gen_spelt line n (is.Migrate db) a b = absurd (let e = sym a.0 ∙ b.0 in cc)
+
+-- words of `gen` spell that command alone, with one number
+pub gen_alone : (words : List Text) (n : ℕ) (c : Command) → HasCommand words (is.Gen n) → HasCommand words c → c ≡ is.Gen n
+gen_alone words n c a b =
+    gen_spelt a.0 n c a.2 (subst (λ l. Spells l c) (some_is b.0 a.0 (sym b.1.line_is ∙ a.1.line_is)) b.2)
 
 -- words that are refused spell no command
 pub refused_alone : (words : List Text) (refusal : WordFault) (c : Command) → IsRefusal words refusal → HasCommand words c → refusal ≡ fault.Memory

@@ -40,8 +40,9 @@ const OPTIONS: [OptionName; 7] = [
 const VERSION: &str = "0.1.0";
 
 const STATUSES: &str = "\
-Example:
+Examples:
   celldb zero --workchain 0 < STATE.boc
+  celldb gen --number 7 > FEED.cdf
 
 Commands that say 'not yet', and the option --db, are a usage fault so far.
 
@@ -199,7 +200,7 @@ fn text_of(name: CommandName) -> CommandText {
         CommandName::Gen => (
             "gen",
             "celldb gen",
-            "Reads nothing, prints the feed of a number (not yet)",
+            "Reads nothing, prints the feed of a number, for tests and measurements",
         ),
         CommandName::Migrate => (
             "migrate",

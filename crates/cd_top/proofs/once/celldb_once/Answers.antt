@@ -1,12 +1,12 @@
--- Words that are not taken leave all objects as they were, and words of `zero` end as the command does.
+-- Words that are not taken leave all objects as they were, and words of a command end as it does.
 use Rattle.std.proofs.Common.{map, string_bytes}
-use Rattle.cd_top.proofs.WordLaws.{ends-untaken, ends-zero}
+use Rattle.cd_top.proofs.WordLaws.{ends-untaken, ends-work}
 use Rattle.cd_top.proofs.once.celldb_once.Goals as goal
 
 pub returns-in-Ok : goal.returns-in-Ok
 returns-in-Ok g c =
-    ends-zero g.H.Hash32.digest_of g.S.Source g.O.Sink g.K.Keeper (map string_bytes c.args.words.now) c.args.input.now c.args.out.now c.args.keeper
-    c.in-Ok.name c.zero.new.input c.zero.new.out c.zero.result.keeper c.zero.result.status c.in-Ok.ensures.found c.zero.ensures
+    ends-work g.H.Hash32.digest_of g.S.Source g.O.Sink g.K.Keeper (map string_bytes c.args.words.now) c.args.input.now c.args.out.now c.args.keeper
+    c.in-Ok.work c.work_on.new.input c.work_on.new.out c.work_on.result.keeper c.work_on.result.status c.in-Ok.ensures.found c.work_on.ensures
 
 pub returns-in-Err : goal.returns-in-Err
 returns-in-Err g c =

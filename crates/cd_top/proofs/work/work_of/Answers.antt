@@ -1,10 +1,10 @@
 use Rattle.std.proofs.Common.{map, string_bytes, sym, subst}
 use Rattle.cd_top.specs.Call.{EndsUntaken}
 use Rattle.cd_top.proofs.WordLaws.{ends-by_refusal, ends-by_other}
-use Rattle.cd_top.proofs.once.name_of.Goals as goal
+use Rattle.cd_top.proofs.work.work_of.Goals as goal
 
 pub returns-in-Ok-clause-other : goal.returns-in-Ok-clause-other
-returns-in-Ok-clause-other c = ends-by_other (map string_bytes c.args.words.now) c.in-Ok.command c.name_in.result c.in-Ok.ensures.found c.name_in.ensures.other
+returns-in-Ok-clause-other c = ends-by_other (map string_bytes c.args.words.now) c.in-Ok.command c.work_in.result c.in-Ok.ensures.found c.work_in.ensures.other
 
 pub returns-in-Err-clause-other : goal.returns-in-Err-clause-other
 returns-in-Err-clause-other c =
