@@ -1,0 +1,4 @@
+pub mod Stored
+pub mod Lists
+pub mod ScanFaults
+pub mod Answers

@@ -1,0 +1,6 @@
+//! Opening a store again: what a keeper holds is read whole, and is refused where it isn't the contents of a sound world.
+#![tactic(auto)]
+
+mod scan_fault;
+
+pub use scan_fault::ScanFault;
