@@ -2,3 +2,4 @@ pub mod Stored
 pub mod Lists
 pub mod ScanFaults
 pub mod Answers
+pub mod Opened

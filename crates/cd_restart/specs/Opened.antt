@@ -1,0 +1,35 @@
+-- Trusted: what an opened store is: the contents of a sound world without pins, whose trees the contents tell.
+use Rattle.std.specs.Prelude.{◌≡◌, ℕ, ◌-◌, ◌^◌, min, List, [], None}
+use Rattle.std.specs.List.{sum_by}
+use Rattle.std.specs.FinMap as finite
+use Rattle.cd_base.specs.declared.hash.Hash256.{Hash256}
+use Rattle.cd_block.specs.declared.description.Descr.{Descr}
+use Rattle.cd_keeper.specs.Contents.{Contents}
+use Rattle.cd_world.specs.declared.world.World.{World}
+use Rattle.cd_world.specs.Image.{IsContentsOf}
+use Rattle.cd_world.specs.Told.{ToldWorld, shown, held, count, IsSound}
+use Rattle.cd_world.specs.Unfolded.{told_in}
+use Rattle.cd_restart.specs.Stored.{AreBytes, blocks_in}
+use Rattle.cd_restart.specs.ScanFaults.{scan_fault}
+
+-- some blocks, without pins
+abbrev pub world_of : List Descr → World
+world_of blocks = record { blocks = blocks; pins = []; next = 0 }
+
+module _ (H : List ℕ → Hash256) where
+  -- the contents are those of this world, which is sound and has no pins
+  pub record IsStore (contents : Contents) (t : ToldWorld) : Type 0 where
+    pub sound : IsSound H t
+    pub alone : t.world.pins ≡ []
+    pub are : IsContentsOf H (shown t) contents
+
+  -- all references to held cells together
+  abbrev pub all_counts : ToldWorld → ℕ
+  all_counts t = sum_by (λ e. count H t e.0) (finite.entries (held H t))
+
+-- Nothing is refused exactly of the contents of a sound world without pins, and then its blocks are those described.
+pub record ScansExactly (H : List ℕ → Hash256) : Type 0 where
+  pub whole : (contents : Contents) → AreBytes contents → scan_fault H contents ≡ None
+      → IsStore H contents (told_in contents (world_of (blocks_in contents)))
+  pub only : (contents : Contents) (t : ToldWorld) → AreBytes contents → IsStore H contents t
+      → (scan_fault H contents ≡ None) × (blocks_in contents ≡ t.world.blocks)
