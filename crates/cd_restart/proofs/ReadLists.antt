@@ -1,5 +1,5 @@
 -- Where all entries are read, what they tell is told in their order, and found under their keys.
-use Rattle.std.proofs.Common.{◌≡◌, ℕ, Bool, true, false, cond, List, [], ◌∷◌, map, Option, Some, None, Result, Ok, Err, Contains, Less, refl, sym, ap, ◌∙◌, subst, inl, inr, ⊎_elim, ◌⊎◌}
+use Rattle.std.proofs.Common.{◌≡◌, ℕ, Bool, true, false, cond, List, [], ◌∷◌, map, Option, Some, None, Result, Ok, Err, Contains, Less, Ordering, refl, sym, ap, ap₂, ◌∙◌, subst, inl, inr, ⊎_elim, ◌⊎◌}
 use Rattle.std.specs.List.{filter_map, cons_option}
 use Rattle.std.specs.Option.{option_map, option_and_then}
 use Rattle.std.specs.Ordering.{eq_by_cmp}
@@ -10,8 +10,9 @@ use Rattle.std.specs.FinMap as finite
 use Rattle.std.proofs.lemmas.Bool.{true≢false}
 use Rattle.std.proofs.lemmas.Option.{none-some, same_Some}
 use Rattle.cd_base.specs.declared.hash.Hash256.{Hash256}
-use Rattle.cd_cell.specs.Equality.{same_hash}
+use Rattle.cd_cell.specs.Equality.{same_hash, same_hash-Decides}
 use Rattle.cd_cell.specs.FaceView.{FaceView}
+use Rattle.cd_cell.proofs.Distinct.{Rises}
 use Rattle.cd_cell.proofs.Subtrees.{Contains-first, Contains-later, Contains-cases, Contains-nil}
 use Rattle.cd_record.specs.declared.record.Record.{Record}
 use Rattle.cd_record.specs.declared.record_fault.RecordFault.{RecordFault}
@@ -51,6 +52,21 @@ module _ {A B : Type 0} (h : A → Option B) where
           subst (λ v. Contains (w ∷ filter_map h xs) v) (same_Some w y (sym at ∙ ap h same ∙ e)) (Contains-first w (filter_map h xs))
       by (Some w) at (inr later) rest = Contains-later w (filter_map h xs) y (rest later)
 
+  -- what is told rises where the elements do
+  module _ (R : A → A → Ordering) (S : B → B → Ordering) where
+    pub rises-told : (xs : List A) → ((x y : A) (u v : B) → Contains xs x → Contains xs y → h x ≡ Some u → h y ≡ Some v → R x y ≡ Less → S u v ≡ Less) → Rises R xs → Rises S (filter_map h xs)
+    rises-told [] keeps up = tt
+    rises-told (x ∷ xs) keeps up = by (h x) refl (rises-told xs (λ y z u v in-y in-z. keeps y z u v (Contains-later x xs y in-y) (Contains-later x xs z in-z)) up.1)
+      where
+        by : (o : Option B) → h x ≡ o → Rises S (filter_map h xs) → Rises S (cons_option o (filter_map h xs))
+        by None e rest = rest
+        by (Some u) e rest = (
+          λ v in-v.
+              let from = told-of xs v in-v in
+              keeps x from.0 u v (Contains-first x xs) (Contains-later x xs from.0 from.1) e from.2 (up.0 from.0 from.1),
+          rest,
+        )
+
 -- ---- keys
 
 pub tie-eq : (p q : List ℕ) → eq_by_cmp byte_cmp p q ≡ bytes_eq p q
@@ -68,31 +84,47 @@ pub recorded : (key : List ℕ) (x : Result Record RecordFault) → unrecorded k
 recorded key (Ok r) e = (r, refl)
 recorded key (Err fault) e = absurd cc
 
+abbrev pub is_read : Record → Result Record RecordFault
+is_read r = Ok r
+
 -- the record under a hash is that of its bytes
-record-found : (es : List Entry) (q : List ℕ) → first_of record_fault es ≡ None → option_map record_in (finite.find byte_cmp q es) ≡ option_map Ok (record_at (filter_map cell_of es) (record { 0 = q }))
+record-found : (es : List Entry) (q : List ℕ) → first_of record_fault es ≡ None → option_map record_in (finite.find byte_cmp q es) ≡ option_map is_read (record_at (filter_map cell_of es) (record { 0 = q }))
 record-found [] q e = refl
 record-found (x ∷ es) q e =
     let both = neither (record_fault x) (first_of record_fault es) e in
     let good = recorded x.0 (record_in x.1) both.0 in
     by (eq_by_cmp byte_cmp q x.0) refl good.0 good.1 (record-found es q both.1)
-    ∙ sym (ap (λ (o : Option Stored). option_map {B = Result Record RecordFault} Ok (option_map (λ c. c.1) (find (λ c. bytes_eq q (let h = c.0 in h.0)) (cons_option o (filter_map cell_of es))))) (ap (read_cell x.0) good.1))
+    ∙ sym (ap (λ (o : Option Stored). option_map is_read (option_map (λ c. c.1) (find (λ c. bytes_eq q (let h = c.0 in h.0)) (cons_option o (filter_map cell_of es))))) (ap (read_cell x.0) good.1))
   where
     by : (b : Bool) → eq_by_cmp byte_cmp q x.0 ≡ b → (r : Record) → record_in x.1 ≡ Ok r
-        → option_map record_in (finite.find byte_cmp q es) ≡ option_map Ok (record_at (filter_map cell_of es) (record { 0 = q }))
-        → option_map record_in (cond b (Some x.1) (finite.find byte_cmp q es)) ≡ option_map Ok (option_map (λ (c : Stored). c.1) (cond (bytes_eq q x.0) (Some (record { 0 = x.0 }, r)) (find (λ (c : Stored). bytes_eq q (let h = c.0 in h.0)) (filter_map cell_of es))))
+        → option_map record_in (finite.find byte_cmp q es) ≡ option_map is_read (record_at (filter_map cell_of es) (record { 0 = q }))
+        → option_map record_in (cond b (Some x.1) (finite.find byte_cmp q es)) ≡ option_map is_read (option_map (λ (c : Stored). c.1) (cond (bytes_eq q x.0) (Some (record { 0 = x.0 }, r)) (find (λ (c : Stored). bytes_eq q (let h = c.0 in h.0)) (filter_map cell_of es))))
     by true at r read rest = rw (sym (tie-eq q x.0) ∙ at) (ap Some read)
     by false at r read rest = rw (sym (tie-eq q x.0) ∙ at) rest
 
 module _ (contents : Contents) (read : first_of record_fault (finite.entries contents.cells) ≡ None) where
-  pub record-under : (q : List ℕ) → option_map record_in (finite.get contents.cells q) ≡ option_map Ok (record_at (cells_in contents) (record { 0 = q }))
+  pub record-under : (q : List ℕ) → option_map record_in (finite.get contents.cells q) ≡ option_map is_read (record_at (cells_in contents) (record { 0 = q }))
   record-under q = ap (option_map record_in) (finite.get-entries contents.cells q) ∙ record-found (finite.entries contents.cells) q read
 
   -- and so its face is the one that the contents tell
   pub face-under : (q : List ℕ) → face_in contents q ≡ option_map (λ r. r.face) (record_at (cells_in contents) (record { 0 = q }))
   face-under q = by (finite.get contents.cells q) (record_at (cells_in contents) (record { 0 = q })) (record-under q)
     where
-      by : (o : Option (List ℕ)) (p : Option Record) → option_map record_in o ≡ option_map Ok p → option_and_then (λ bytes. face_read (record_in bytes)) o ≡ option_map (λ r. r.face) p
+      by : (o : Option (List ℕ)) (p : Option Record) → option_map record_in o ≡ option_map is_read p → option_and_then (λ bytes. face_read (record_in bytes)) o ≡ option_map (λ r. r.face) p
       by None None e = refl
       by None (Some r) e = absurd cc
       by (Some bytes) None e = absurd cc
       by (Some bytes) (Some r) e = ap face_read (same_Some (record_in bytes) (Ok r) e)
+
+-- what is found under a hash is a cell with that hash
+pub stored-at : (cells : List Stored) (hash : Hash256) (r : Record) → record_at cells hash ≡ Some r → Contains cells (hash, r)
+stored-at [] hash r e = absurd (none-some r e)
+stored-at (c ∷ cells) hash r e = by (same_hash hash c.0) refl e (stored-at cells hash r)
+  where
+    by : (b : Bool) → same_hash hash c.0 ≡ b → option_map (λ (x : Stored). x.1) (cond b (Some c) (find (λ (x : Stored). same_hash hash x.0) cells)) ≡ Some r
+        → (record_at cells hash ≡ Some r → Contains cells (hash, r)) → Contains (c ∷ cells) (hash, r)
+    by true same is rest =
+        let key : c.0 ≡ hash = sym ((same_hash-Decides hash c.0).0 same) in
+        let value : c.1 ≡ r = same_Some c.1 r is in
+        subst (Contains (c ∷ cells)) (ap₂ (λ (h : Hash256) (x : Record). (h, x)) key value) (Contains-first c cells)
+    by false other is rest = Contains-later c cells (hash, r) (rest is)

@@ -1,14 +1,15 @@
 -- Entries of tables, in the order of their keys.
 use Rattle.std.proofs.Common.{◌≡◌, ℕ, Bool, true, false, cond, List, [], ◌∷◌, map, filter, Option, Some, None, Contains, Less, Equal, Greater, Ordering, refl, sym, ap, ◌∙◌, subst, inl, inr, ⊎_elim, ◌⊎◌}
-use Rattle.std.specs.Ordering.{nat_cmp, eq_by_cmp, is_lt}
-use Rattle.std.specs.Cmp.{tied_itself}
+use Rattle.std.specs.Ordering.{nat_cmp, eq_by_cmp, is_lt, on}
+use Rattle.std.specs.Cmp.{IsTotalOrder, tied_itself, on_total}
 use Rattle.std.specs.Cmp.Lexicographic.{slice_cmp, nat_list_cmp_total}
 use Rattle.std.specs.FinMap as finite
 use Rattle.std.specs.FinMap.{FinMap, find, get, entries, is_sorted}
 use Rattle.std.specs.FinMap.Entries.{below_all}
 use Rattle.std.proofs.lemmas.Bool.{and_parts, true≢false}
 use Rattle.std.proofs.lemmas.Option.{none-some, same_Some}
-use Rattle.cd_cell.proofs.Subtrees.{Contains-first, Contains-later, Contains-cases, Contains-nil}
+use Rattle.cd_cell.proofs.Distinct.{Rises}
+use Rattle.cd_cell.proofs.Subtrees.{Contains-first, Contains-later, Contains-cases, Contains-nil, Contains-map, Contains-mapped}
 use Rattle.cd_world.proofs.Held.{same_bytes, bytes_tie}
 use Rattle.cd_world.proofs.Puts.{true_of}
 
@@ -30,13 +31,15 @@ pub one_way : (a b : List ℕ) → byte_cmp a b ≡ Less → byte_cmp b a ≡ Le
 one_way a b e f = (let turned = nat_list_cmp_total.antisymm a b in absurd (cc (turned, e, f)))
 
 module _ {X : Type 0} where
-  abbrev pub IsBefore : List ℕ × X → List ℕ × X → Type 0
-  IsBefore a b = byte_cmp a.0 b.0 ≡ Less
+  abbrev pub by_key : List ℕ × X → List ℕ × X → Ordering
+  by_key = on (λ e. e.0) byte_cmp
+
+  pub by_key-total : IsTotalOrder by_key
+  by_key-total = on_total (λ (e : List ℕ × X). e.0) nat_list_cmp_total
 
   -- each entry is before those after it
   abbrev pub AreInOrder : List (List ℕ × X) → Type 0
-  AreInOrder [] = Unit {0}
-  AreInOrder (e ∷ es) = ((f : List ℕ × X) → Contains es f → IsBefore e f) × AreInOrder es
+  AreInOrder = Rises by_key
 
   below-entry : (key : List ℕ) (es : List (List ℕ × X)) (e : List ℕ × X) → below_all byte_cmp key es ≡ true → Contains es e → byte_cmp key e.0 ≡ Less
   below-entry key [] e below h = absurd (Contains-nil e h)
@@ -79,3 +82,23 @@ module _ {X : Type 0} where
 
   pub table-got : (m : FinMap byte_cmp X) (q : List ℕ) (v : X) → get m q ≡ Some v → (e : List ℕ × X) × Contains (entries m) e × (q ≡ e.0) × (e.1 ≡ v)
   table-got m q v e = entry-found q (entries m) v (sym (finite.get-entries m q) ∙ e)
+
+-- ---- lists that rise
+
+module _ {A B : Type 0} (R : A → A → Ordering) (S : B → B → Ordering) where
+  pub rises-map : (f : A → B) (xs : List A) → ((x y : A) → Contains xs x → Contains xs y → R x y ≡ Less → S (f x) (f y) ≡ Less) → Rises R xs → Rises S (map f xs)
+  rises-map f [] keeps up = tt
+  rises-map f (x ∷ xs) keeps up = (
+    λ y h.
+        let from = Contains-map f xs y h in
+        subst (λ z. S (f x) z ≡ Less) from.2 (keeps x from.0 (Contains-first x xs) (Contains-later x xs from.0 from.1) (up.0 from.0 from.1)),
+    rises-map f xs (λ y z in-y in-z. keeps y z (Contains-later x xs y in-y) (Contains-later x xs z in-z)) up.1,
+  )
+
+  -- what keeps the order leads back to it
+  pub rises-unmap : (f : A → B) (xs : List A) → ((x y : A) → Contains xs x → Contains xs y → S (f x) (f y) ≡ Less → R x y ≡ Less) → Rises S (map f xs) → Rises R xs
+  rises-unmap f [] keeps up = tt
+  rises-unmap f (x ∷ xs) keeps up = (
+    λ y h. keeps x y (Contains-first x xs) (Contains-later x xs y h) (up.0 (f y) (Contains-mapped f xs y h)),
+    rises-unmap f xs (λ y z in-y in-z. keeps y z (Contains-later x xs y in-y) (Contains-later x xs z in-z)) up.1,
+  )

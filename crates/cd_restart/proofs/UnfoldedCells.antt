@@ -37,7 +37,7 @@ module _ (H : List ℕ → Hash256) (contents : Contents) (fitting : AreFitting 
       ap₂ (λ (x : ChildInfo) xs. x ∷ xs) (each k (Contains-first k ks)) (infos-told levels ks (λ x h. each x (Contains-later k ks x h)))
 
   -- a kid's face is lower
-  kid-lower : (q : List ℕ) (f : FaceView) → face_in contents q ≡ Some f → (k : ChildInfo) → Contains f.kids k → (g : FaceView) → info_of_face H g ≡ k → height_of_face g < height_of_face f
+  pub kid-lower : (q : List ℕ) (f : FaceView) → face_in contents q ≡ Some f → (k : ChildInfo) → Contains f.kids k → (g : FaceView) → info_of_face H g ≡ k → height_of_face g < height_of_face f
   kid-lower q f at k h g is =
       let lower = height_of_face-kid f (fitting.good q f at).fit k h (fitting.steady q f at k h) in
       subst (λ (x : ChildInfo). height_of_info x < height_of_face f) (sym is) lower
@@ -63,7 +63,7 @@ module _ (H : List ℕ → Hash256) (contents : Contents) (fitting : AreFitting 
   -- what is unfolded has the stored face
   pub tree-face : (levels : ℕ) → IsFaceTold levels
   tree-face zero q f at low = absurd (omega arith)
-  tree-face (suc levels) = face-step levels (tree-face levels)
+  tree-face (suc levels) q f at low = face-step levels (tree-face levels) q f at low
 
   -- and its children are unfolded from the hashes of the kids
   child-told : (levels : ℕ) (q : Hash256) (f : FaceView) → face_in contents q.0 ≡ Some f → (c : Tree) → Contains (children (tree_in contents (suc levels) q)) c

@@ -1,6 +1,6 @@
 -- Trusted: why a keeper's contents aren't those of a store: each refusal at the first key that has it, in the order of the keys,
 -- and all keys of one refusal before the next refusal.
-use Rattle.std.specs.Prelude.{ℕ, ◌+◌, ◌==◌, Bool, true, false, not, ◌&&◌, List, [], ◌∷◌, find, Option, Some, None, is_none, is_some, Result, Ok, Err, if◌then◌else◌}
+use Rattle.std.specs.Prelude.{ℕ, ◌+◌, ◌==◌, Bool, true, false, not, ◌&&◌, ◌||◌, List, [], ◌∷◌, find, Option, Some, None, is_none, is_some, Result, Ok, Err, if◌then◌else◌}
 use Rattle.std.specs.Option.{option_map, option_or}
 use Rattle.std.specs.List.{count_by, sum_by}
 use Rattle.std.specs.FinMap as finite
@@ -38,16 +38,13 @@ undescribed key (Err fault) = Some (refusal.Desc key)
 abbrev pub desc_fault : Entry → Option ScanFault
 desc_fault e = undescribed e.0 (descr_in e.0 e.1)
 
-abbrev pub is_zero_state : Descr → Bool
-is_zero_state d = no_parent d.parents
-  where
-    abbrev no_parent : {A : Type 0} → List A → Bool
-    no_parent [] = true
-    no_parent (p ∷ ps) = false
+abbrev pub is_nothing : {A : Type 0} → List A → Bool
+is_nothing [] = true
+is_nothing (x ∷ xs) = false
 
 -- the block may have its parents, and a zero state has the root that its name says
 abbrev pub has_lineage : Descr → Bool
-has_lineage d = is_none (lineage_fault d.id d.parents) && (not (is_zero_state d) || same_hash d.id.root d.root)
+has_lineage d = is_none (lineage_fault d.id d.parents) && (not (is_nothing d.parents) || same_hash d.id.root d.root)
 
 abbrev pub lineage_refusal : Descr → Option ScanFault
 lineage_refusal d = unless (has_lineage d) (refusal.Lineage (key_of d.id))
@@ -115,10 +112,10 @@ module _ (cells : List Stored) where
 
 -- the references to a hash: one for each block of which it is the root, and one for each place in a stored cell
 abbrev pub places_in : Hash256 → Stored → ℕ
-places_in hash c = count_by (λ k. same_hash hash (rep_of_info k)) c.1.face.kids
+places_in hash c = count_by (λ k. same_hash (rep_of_info k) hash) c.1.face.kids
 
 abbrev pub references : List Descr → List Stored → Hash256 → ℕ
-references blocks cells hash = count_by (λ d. same_hash hash d.root) blocks + sum_by (places_in hash) cells
+references blocks cells hash = count_by (λ d. same_hash d.root hash) blocks + sum_by (places_in hash) cells
 
 -- a stored count isn't the number of references
 abbrev pub count_fault : List Descr → List Stored → Stored → Option ScanFault
@@ -127,15 +124,15 @@ count_fault blocks cells c =
 
 -- ---- all refusals, in their order
 
+abbrev pub roots_fault : List Stored → List Descr → Option ScanFault
+roots_fault cells blocks = option_or (first_of (root_fault cells) blocks) (first_of (depth_fault cells) blocks)
+
 module _ (H : List ℕ → Hash256) where
   abbrev pub cells_fault : List Entry → List Stored → Option ScanFault
   cells_fault es cells = option_or (first_of record_fault es) (first_of (key_fault H) cells)
 
   abbrev pub kids_fault : List Stored → List Stored → Option ScanFault
   kids_fault all cells = option_or (first_of (missing_fault H all) cells) (first_of (kid_fault H all) cells)
-
-  abbrev pub roots_fault : List Stored → List Descr → Option ScanFault
-  roots_fault cells blocks = option_or (first_of (root_fault cells) blocks) (first_of (depth_fault cells) blocks)
 
   -- why contents aren't those of a sound world
   abbrev pub scan_fault : Contents → Option ScanFault
