@@ -5,3 +5,4 @@ pub mod UnfoldedCells
 pub mod Matching
 pub mod FreeOfFaults
 pub mod StoredWorlds
+pub mod SoundStores

@@ -57,7 +57,7 @@ module _ {X : Type 0} where
   table-in_order m = order-sorted (entries m) (true_of _ (finite.entries_sorted m))
 
   -- in order, each entry is found under its key
-  found-entry : (es : List (List ℕ × X)) → AreInOrder es → (e : List ℕ × X) → Contains es e → find byte_cmp e.0 es ≡ Some e.1
+  pub found-entry : (es : List (List ℕ × X)) → AreInOrder es → (e : List ℕ × X) → Contains es e → find byte_cmp e.0 es ≡ Some e.1
   found-entry [] up e h = absurd (Contains-nil e h)
   found-entry (x ∷ es) up e h = by (found-entry es up.1 e) (Contains-cases x es e h) (eq_by_cmp byte_cmp e.0 x.0) refl
     where
@@ -68,7 +68,7 @@ module _ {X : Type 0} where
       by rest (inr later) false tied = rest later
 
   -- what is found under a key is an entry with that key
-  entry-found : (q : List ℕ) (es : List (List ℕ × X)) (v : X) → find byte_cmp q es ≡ Some v → (e : List ℕ × X) × Contains es e × (q ≡ e.0) × (e.1 ≡ v)
+  pub entry-found : (q : List ℕ) (es : List (List ℕ × X)) (v : X) → find byte_cmp q es ≡ Some v → (e : List ℕ × X) × Contains es e × (q ≡ e.0) × (e.1 ≡ v)
   entry-found q [] v e = absurd (none-some v e)
   entry-found q (x ∷ es) v e = by (entry-found q es v) (eq_by_cmp byte_cmp q x.0) refl e
     where
