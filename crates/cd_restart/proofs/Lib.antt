@@ -6,3 +6,4 @@ pub mod Matching
 pub mod FreeOfFaults
 pub mod StoredWorlds
 pub mod SoundStores
+pub mod PlainInfos

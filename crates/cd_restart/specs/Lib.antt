@@ -3,3 +3,5 @@ pub mod Lists
 pub mod ScanFaults
 pub mod Answers
 pub mod Opened
+pub mod RowView
+pub mod Rows

@@ -1,6 +1,9 @@
 //! Opening a store again: what a keeper holds is read whole, and is refused where it isn't the contents of a sound world.
 #![tactic(auto)]
 
+mod laws;
+mod row;
 mod scan_fault;
 
+pub use laws::a_scan_is_exact;
 pub use scan_fault::ScanFault;
