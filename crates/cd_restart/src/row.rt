@@ -25,7 +25,9 @@ pub enum Shown {
 
 impl Shown {
     fn of(alloc: Global, info: &ChildInfo) -> Result<Shown, AllocError>
-        requires { IsFlat info.now }
+        requires flat { IsFlat info.now }
+        requires hashes { length info.now.hashes ≡ 4 }
+        requires depths { length info.now.depths ≡ 4 }
         ensures { IfOk result (λ shown. shown_by shown ≡ info.now) }
     {
         if info.mask == Mask::NONE {
@@ -104,7 +106,9 @@ impl Row {
         stored: u64,
         info: &ChildInfo,
     ) -> Result<Row, AllocError>
-        requires { IsFlat info.now }
+        requires flat { IsFlat info.now }
+        requires hashes { length info.now.hashes ≡ 4 }
+        requires depths { length info.now.depths ≡ 4 }
         ensures { IfOk result (λ row. row ≡ record { hash = hash; stored = stored; counted = 0; shown = info.now }) }
     {
         Ok(Row {
