@@ -7,3 +7,4 @@ pub mod FreeOfFaults
 pub mod StoredWorlds
 pub mod SoundStores
 pub mod PlainInfos
+pub mod RowLists

@@ -3,6 +3,7 @@
 
 mod laws;
 mod row;
+mod rows;
 mod scan_fault;
 
 pub use laws::a_scan_is_exact;
