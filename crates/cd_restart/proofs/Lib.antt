@@ -8,3 +8,4 @@ pub mod StoredWorlds
 pub mod SoundStores
 pub mod PlainInfos
 pub mod RowLists
+pub mod Loops

@@ -28,6 +28,11 @@ abbrev pub Answers : {T : Type 0} → Option ScanFault → Result T ScanFault �
 Answers fault (Ok x) = fault ≡ None
 Answers fault (Err e) = Refuses fault e
 
+-- no fault of the keeper
+abbrev pub IsOwn : ScanFault → Type 0
+IsOwn Keeper = ⊥
+IsOwn _ = Unit {0}
+
 -- a keeper's fault comes only where its count of faults rose; all else leaves the count
 abbrev pub IsCaused : ℕ → ℕ → ScanFault → Type 0
 IsCaused before now Keeper = Rose before now

@@ -21,6 +21,7 @@ use Rattle.cd_keeper.specs.Contents.{Contents}
 use Rattle.cd_restart.specs.declared.scan_fault.ScanFault.{ScanFault}
 use Rattle.cd_restart.specs.declared.scan_fault.ScanFault.TheVariants as refusal
 use Rattle.cd_restart.specs.Lists.{first_of}
+use Rattle.cd_restart.specs.RowView.{RowView}
 use Rattle.cd_restart.specs.Stored.{Entry, Stored, blocks_in, cells_in}
 
 -- no refusal where the test holds
@@ -121,6 +122,10 @@ references blocks cells hash = count_by (λ d. same_hash d.root hash) blocks + s
 abbrev pub count_fault : List Descr → List Stored → Stored → Option ScanFault
 count_fault blocks cells c =
     unless (c.1.count == references blocks cells c.0) (refusal.Count c.0 c.1.count (references blocks cells c.0))
+
+-- the same of what a scan remembers of a cell
+abbrev pub row_fault : RowView → Option ScanFault
+row_fault r = unless (r.stored == r.counted) (refusal.Count r.hash r.stored r.counted)
 
 -- ---- all refusals, in their order
 

@@ -1,6 +1,7 @@
 //! Opening a store again: what a keeper holds is read whole, and is refused where it isn't the contents of a sound world.
 #![tactic(auto)]
 
+mod checks;
 mod laws;
 mod row;
 mod rows;
