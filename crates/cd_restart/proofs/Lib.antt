@@ -9,3 +9,5 @@ pub mod SoundStores
 pub mod PlainInfos
 pub mod RowLists
 pub mod Loops
+pub mod Walking
+pub mod NextEntries

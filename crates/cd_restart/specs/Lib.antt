@@ -5,3 +5,4 @@ pub mod Answers
 pub mod Opened
 pub mod RowView
 pub mod Rows
+pub mod Walks

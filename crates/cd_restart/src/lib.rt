@@ -3,6 +3,7 @@
 
 mod checks;
 mod laws;
+mod reading;
 mod row;
 mod rows;
 mod scan_fault;
