@@ -1,11 +1,12 @@
 -- What is read next of a table: a cell, a block, or a refusal.
-use Rattle.std.proofs.Common.{◌≡◌, ℕ, List, [], ◌∷◌, length, Option, Some, None, Result, Ok, Err, refl, sym, ap, ◌∙◌, subst}
+use Rattle.std.proofs.Common.{◌≡◌, ◌≢◌, ℕ, List, [], ◌∷◌, length, Option, Some, None, Result, Ok, Err, refl, sym, ap, ◌∙◌, subst}
 use Rattle.std.specs.Option.{option_or}
 use Rattle.std.specs.FinMap as finite
 use Rattle.cd_base.specs.declared.hash.Hash256.{Hash256}
 use Rattle.cd_base.specs.Numbers.{IsBytes}
 use Rattle.cd_block.specs.declared.description.Descr.{Descr}
 use Rattle.cd_block.specs.declared.description.DescrFault.{DescrFault}
+use Rattle.cd_block.specs.declared.description.DescrFault.TheVariants as descr
 use Rattle.cd_block.specs.Block.{key_of}
 use Rattle.cd_block.specs.Reading.{descr_in}
 use Rattle.cd_record.specs.declared.record.Record.{Record}
@@ -14,6 +15,7 @@ use Rattle.cd_record.specs.RecordReading.{record_in}
 use Rattle.cd_keeper.specs.Contents.{Table, next_entry}
 use Rattle.cd_restart.specs.declared.scan_fault.ScanFault.{ScanFault}
 use Rattle.cd_restart.specs.declared.scan_fault.ScanFault.TheVariants as refusal
+use Rattle.cd_restart.specs.Answers.{of_descr, Refuses, IsCaused}
 use Rattle.cd_restart.specs.Lists.{first_of}
 use Rattle.cd_restart.specs.Stored.{Entry, Stored, read_cell, read_descr}
 use Rattle.cd_restart.specs.ScanFaults.{unrecorded, undescribed, record_fault, desc_fault}
@@ -46,8 +48,24 @@ module _ (m : Table) (after : Option (List ℕ)) where
     fit = record { len = len; key = key_fit; value = fit };
   }
 
-  pub block-refused : (key bytes : List ℕ) (fault : DescrFault) → next_entry m after ≡ Some (key, bytes) → descr_in key bytes ≡ Err fault
+  block-refused : (key bytes : List ℕ) (fault : DescrFault) → next_entry m after ≡ Some (key, bytes) → descr_in key bytes ≡ Err fault
       → first_of desc_fault (above after (finite.entries m)) ≡ Some (refusal.Desc key)
   block-refused key bytes fault next read =
       ap (first_of desc_fault) (next-some m after (key, bytes) next)
       ∙ ap (λ (x : Result Descr DescrFault). option_or (undescribed key x) (first_of desc_fault (above (Some key) (finite.entries m)))) read
+
+  -- unless memory ran out
+  pub block-refuses : (key bytes : List ℕ) (fault : DescrFault) → next_entry m after ≡ Some (key, bytes) → (fault ≢ descr.Memory → descr_in key bytes ≡ Err fault)
+      → Refuses (first_of desc_fault (above after (finite.entries m))) (of_descr key fault)
+  block-refuses key bytes descr.Version next read = block-refused key bytes descr.Version next (read (λ e. cc))
+  block-refuses key bytes descr.Cut next read = block-refused key bytes descr.Cut next (read (λ e. cc))
+  block-refuses key bytes descr.Extra next read = block-refused key bytes descr.Extra next (read (λ e. cc))
+  block-refuses key bytes descr.Form next read = block-refused key bytes descr.Form next (read (λ e. cc))
+  block-refuses key bytes descr.Memory next read = tt
+
+pub descr-caused : (before now : ℕ) (key : List ℕ) (fault : DescrFault) → now ≡ before → IsCaused before now (of_descr key fault)
+descr-caused before now key descr.Version same = same
+descr-caused before now key descr.Cut same = same
+descr-caused before now key descr.Extra same = same
+descr-caused before now key descr.Form same = same
+descr-caused before now key descr.Memory same = same

@@ -1,21 +1,22 @@
 -- Trusted: how a scan answers: a refusal exactly where the contents have it, and a fault of the keeper only where its count rose.
-use Rattle.std.specs.Prelude.{◌≡◌, ℕ, ◌≤◌, Option, Some, None, Result, Ok, Err, IfErr, OnOk}
+use Rattle.std.specs.Prelude.{◌≡◌, ℕ, ◌≤◌, List, Option, Some, None, Result, Ok, Err, IfErr, OnOk}
 use Rattle.cd_base.specs.Counts.{Rose}
+use Rattle.cd_block.specs.declared.description.DescrFault.{DescrFault}
+use Rattle.cd_block.specs.declared.description.DescrFault.TheVariants as descr
 use Rattle.cd_keeper.specs.declared.fault.KeepFault.{KeepFault}
 use Rattle.cd_keeper.specs.declared.fault.KeepFault.TheVariants as keep
 use Rattle.cd_restart.specs.declared.scan_fault.ScanFault.{ScanFault}
-use Rattle.cd_restart.specs.declared.scan_fault.ScanFault.TheVariants.{Keeper, Memory}
+use Rattle.cd_restart.specs.declared.scan_fault.ScanFault.TheVariants.{Desc, Keeper, Memory}
 
 -- a fault of the keeper as a fault of the scan
 abbrev pub of_keep : KeepFault → ScanFault
 of_keep keep.Failed = Keeper
 of_keep keep.Memory = Memory
 
--- a fault of the keeper, or want of memory
-abbrev pub IsOutside : ScanFault → Type 0
-IsOutside Keeper = Unit {0}
-IsOutside Memory = Unit {0}
-IsOutside _ = ⊥
+-- why a description isn't read, as a fault of the scan
+abbrev pub of_descr : List ℕ → DescrFault → ScanFault
+of_descr key descr.Memory = Memory
+of_descr key _ = Desc key
 
 -- the answer is this refusal, or that of the keeper or of memory
 abbrev pub Refuses : Option ScanFault → ScanFault → Type 0

@@ -14,6 +14,7 @@ ghost use Rattle.cd_restart.specs.Stored.{IsDescEntry, IsCellEntry, blocks_in, c
 ghost use Rattle.cd_restart.specs.ScanFaults as faults;
 ghost use Rattle.cd_restart.specs.Rows.{AreRowsOf, kid_references};
 ghost use Rattle.cd_restart.specs.Walks.{IsNext, IsCellNext, IsBlockNext};
+ghost use Rattle.cd_restart.specs.Answers as answers;
 ghost use Rattle.cd_restart.specs.Answers.{Answers, HasScanCause};
 
 use crate::checks::check_kids_of;
@@ -53,8 +54,20 @@ fn next_block<K: Keeper>(
     known(value.as_slice());
     match decode_descr(alloc, &key, value.as_slice()) {
         Ok(block) => Ok(Some(block)),
-        Err(DescrFault::Memory) => Err(ScanFault::Memory),
-        Err(_) => Err(ScanFault::Desc { key }),
+        Err(fault) => Err(of_descr(&key, fault)),
+    }
+}
+
+/// A fault of a description under its key.
+fn of_descr(key: &[u8; 80], fault: DescrFault) -> ScanFault
+    ensures { result ≡ answers.of_descr key.now fault }
+{
+    match fault {
+        DescrFault::Memory => ScanFault::Memory,
+        DescrFault::Version | DescrFault::Cut | DescrFault::Extra | DescrFault::Form => {
+            let key = *key;
+            ScanFault::Desc { key }
+        }
     }
 }
 
