@@ -11,3 +11,4 @@ pub mod RowLists
 pub mod Loops
 pub mod Walking
 pub mod NextEntries
+pub mod PassSteps

@@ -9,6 +9,9 @@ use Rattle.cd_world.specs.declared.world.World.{World}
 use Rattle.cd_world.specs.Image.{IsContentsOf}
 use Rattle.cd_world.specs.Told.{ToldWorld, shown, held, count, IsSound}
 use Rattle.cd_world.specs.Unfolded.{told_in}
+use Rattle.cd_restart.specs.declared.opened.Opened.{Opened}
+use Rattle.cd_restart.specs.declared.scan_fault.ScanFault.{ScanFault}
+use Rattle.cd_restart.specs.declared.scan_fault.ScanFault.TheVariants.{Keeper, Memory}
 use Rattle.cd_restart.specs.Stored.{AreBytes, blocks_in}
 use Rattle.cd_restart.specs.ScanFaults.{scan_fault}
 
@@ -26,6 +29,23 @@ module _ (H : List ℕ → Hash256) where
   -- all references to held cells together
   abbrev pub all_counts : ToldWorld → ℕ
   all_counts t = sum_by (λ e. count H t e.0) (finite.entries (held H t))
+
+  -- this was opened: the contents are those of a sound world with these blocks, which holds so many cells, and so many
+  -- references or the last u64
+  pub record IsOpened (contents : Contents) (opened : Opened) : Type 0 where
+    pub store : IsStore contents (told_in contents (world_of opened.blocks))
+    pub cells : opened.cells ≡ finite.len (held H (told_in contents (world_of opened.blocks)))
+    pub counts : opened.counts ≡ min (all_counts (told_in contents (world_of opened.blocks))) (2 ^ 64 - 1)
+
+  -- the contents, which are bytes, are those of no sound world without pins
+  abbrev pub AreNoStore : Contents → Type 0
+  AreNoStore contents = AreBytes contents → (t : ToldWorld) → IsStore contents t → ⊥
+
+  -- this refusal says so; that the keeper failed or memory ran out says nothing
+  abbrev pub IsDamaged : Contents → ScanFault → Type 0
+  IsDamaged contents Keeper = Unit {0}
+  IsDamaged contents Memory = Unit {0}
+  IsDamaged contents _ = AreNoStore contents
 
 -- Nothing is refused exactly of the contents of a sound world without pins, and then its blocks are those described.
 pub record ScansExactly (H : List ℕ → Hash256) : Type 0 where

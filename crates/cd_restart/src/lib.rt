@@ -3,10 +3,15 @@
 
 mod checks;
 mod laws;
+mod opened;
+mod opening;
+mod passes;
 mod reading;
 mod row;
 mod rows;
 mod scan_fault;
 
 pub use laws::a_scan_is_exact;
+pub use opened::Opened;
+pub use opening::scan;
 pub use scan_fault::ScanFault;

@@ -17,12 +17,9 @@ ghost use Rattle.cd_restart.specs.Walks.{IsNext, IsCellNext, IsBlockNext};
 ghost use Rattle.cd_restart.specs.Answers as answers;
 ghost use Rattle.cd_restart.specs.Answers.{Answers, HasScanCause};
 
-use crate::checks::check_kids_of;
-use crate::row::Row;
 use crate::scan_fault::ScanFault;
 use cd_base::Hash256;
 use cd_block::{Descr, DescrFault, decode_descr};
-use cd_cell::{Hash32, face_info};
 use cd_keeper::Keeper;
 use cd_record::{Record, decode};
 use std::alloc::Global;
@@ -35,7 +32,7 @@ fn known(bytes: &[u8])
 }
 
 /// The block with the least key above `after`.
-fn next_block<K: Keeper>(
+pub fn next_block<K: Keeper>(
     alloc: Global,
     keeper: &mut K,
     after: Option<[u8; 80]>,
@@ -72,7 +69,7 @@ fn of_descr(key: &[u8; 80], fault: DescrFault) -> ScanFault
 }
 
 /// The cell with the least hash above `after`.
-fn next_record<K: Keeper>(
+pub fn next_record<K: Keeper>(
     keeper: &mut K,
     after: Option<Hash256>,
 ) -> Result<Option<(Hash256, Record)>, ScanFault>
