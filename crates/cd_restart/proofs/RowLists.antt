@@ -228,3 +228,9 @@ module _ (H : List ℕ → Hash256) (hashes : List Hash256) where
           AllPairs-from_rises row_cmp (rows_of H cells (hashes ++ hash ∷ []))
           (rises-map (on (λ (c : Stored). c.0) hash_cmp) row_cmp (row_after H (hashes ++ hash ∷ [])) cells (λ x y in-x in-y less. less)
           (rises-unmap (on (λ (c : Stored). c.0) hash_cmp) row_cmp (row_after H hashes) cells (λ x y in-x in-y less. less) (rises-from_AllPairs row_cmp (rows_of H cells hashes) rising)))
+
+-- rows of cells in order rise
+pub rows-rising : (H : List ℕ → Hash256) (hashes : List Hash256) (cells : List Stored) → Rises (on (λ (c : Stored). let h = c.0 in h.0) byte_cmp) cells → AreRising (rows_of H cells hashes)
+rows-rising H hashes cells up =
+    AllPairs-from_rises row_cmp (rows_of H cells hashes)
+    (rises-map (on (λ (c : Stored). let h = c.0 in h.0) byte_cmp) row_cmp (row_after H hashes) cells (λ x y in-x in-y less. less) up)

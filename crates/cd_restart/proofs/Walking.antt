@@ -83,3 +83,7 @@ next-none m after is = ended (finite.entries m) after is
 pub above-all : (es : List Entry) → above None es ≡ es
 above-all [] = refl
 above-all (e ∷ es) = ap (λ ys. e ∷ ys) (above-all es)
+
+pub if_some-all : {A : Type 0} (P : A → Type 0) (o : Option A) → ((x : A) → P x) → IfSome o P
+if_some-all P None f = tt
+if_some-all P (Some x) f = f x
