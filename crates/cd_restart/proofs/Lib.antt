@@ -12,3 +12,4 @@ pub mod Loops
 pub mod Walking
 pub mod NextEntries
 pub mod PassSteps
+pub mod OpenedStores

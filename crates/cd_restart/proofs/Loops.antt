@@ -1,12 +1,13 @@
 -- Loops that look for two kinds of faults: the first of the one ends them, and the first of the other is kept.
 use Rattle.std.proofs.Common.{◌≡◌, ℕ, ◌+◌, ◌<◌, ◌≤◌, List, [], ◌∷◌, ◌++◌, map, take, drop, length, get_or, Option, Some, None, refl, sym, ap, ◌∙◌, subst, append_assoc}
+use Rattle.std.specs.Prelude.{IfSome}
 use Rattle.std.specs.Option.{option_or}
 use Rattle.std.proofs.lemmas.List.{map_push, take_more, at_drop_more, at_drop_all}
 use Rattle.std.proofs.lemmas.Option.{none-some}
 use Rattle.cd_restart.specs.declared.scan_fault.ScanFault.{ScanFault}
 use Rattle.cd_restart.specs.declared.scan_fault.ScanFault.TheVariants as refusal
 use Rattle.cd_restart.specs.Lists.{first_of}
-use Rattle.cd_restart.specs.Answers.{Refuses}
+use Rattle.cd_restart.specs.Answers.{Refuses, IsOwn}
 use Rattle.cd_restart.proofs.Faults.{or-assoc}
 
 -- one element more
@@ -78,3 +79,7 @@ pub references-more : {A B : Type 0} (f : A → B) (hashes : List B) (xs : List 
 references-more f hashes xs i d within =
     ap (λ ys. hashes ++ ys) (ap (map f) (take_more xs i d within) ∙ map_push f (take i xs) (get_or xs i d))
     ∙ sym (append_assoc hashes (map f (take i xs)) (f (get_or xs i d) ∷ []))
+
+pub own-or : (a b : Option ScanFault) → IfSome a IsOwn → IfSome b IsOwn → IfSome (option_or a b) IsOwn
+own-or None b p q = q
+own-or (Some e) b p q = p

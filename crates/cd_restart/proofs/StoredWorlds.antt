@@ -262,7 +262,7 @@ module _ (H : List ℕ → Hash256) (contents : Contents) (fits : AreBytes conte
   face-there : (c : Stored) → Contains cells c → face_in contents (let h = c.0 in h.0) ≡ Some c.1.face
   face-there c h = face-of-record c.0 c.1 (record-there c h)
 
-  count-is : (c : Stored) → Contains cells c → c.1.count ≡ references blocks cells c.0
+  pub count-is : (c : Stored) → Contains cells c → c.1.count ≡ references blocks cells c.0
   count-is c h =
       eqb-true c.1.count (references blocks cells c.0)
       (holds (eqb c.1.count (references blocks cells c.0)) (refusal.Count c.0 c.1.count (references blocks cells c.0)) (first_of-none (count_fault blocks cells) cells none.counts c h))
@@ -303,7 +303,7 @@ module _ (H : List ℕ → Hash256) (contents : Contents) (fits : AreBytes conte
           (ap (tree_in contents 1024) same ∙ same_levels H contents fitting 1024 1025 c.0 c.1.face (face-there c h) (omega arith) (omega arith))
           (flat_map-subtree (states_of t) (tree_in contents 1025 p.0) (tree_in contents 1024 (rep_of_info k)) above child)
 
-  matching : AreHeld H t cells
+  pub matching : AreHeld H t cells
   matching = record { ordered = cells-rise contents; into = into; back = back; roots = roots }
     where
       into : (c : Stored) → Contains cells c → let h = c.0 in (s : Tree) × (get (held H t) h.0 ≡ Some s) × (face_of H s ≡ c.1.face)

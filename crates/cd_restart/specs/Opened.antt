@@ -1,5 +1,5 @@
 -- Trusted: what an opened store is: the contents of a sound world without pins, whose trees the contents tell.
-use Rattle.std.specs.Prelude.{◌≡◌, ℕ, ◌-◌, ◌^◌, min, List, [], None}
+use Rattle.std.specs.Prelude.{◌≡◌, ℕ, ◌-◌, ◌^◌, min, List, [], length, None}
 use Rattle.std.specs.List.{sum_by}
 use Rattle.std.specs.FinMap as finite
 use Rattle.cd_base.specs.declared.hash.Hash256.{Hash256}
@@ -12,12 +12,19 @@ use Rattle.cd_world.specs.Unfolded.{told_in}
 use Rattle.cd_restart.specs.declared.opened.Opened.{Opened}
 use Rattle.cd_restart.specs.declared.scan_fault.ScanFault.{ScanFault}
 use Rattle.cd_restart.specs.declared.scan_fault.ScanFault.TheVariants.{Keeper, Memory}
-use Rattle.cd_restart.specs.Stored.{AreBytes, blocks_in}
+use Rattle.cd_restart.specs.Stored.{AreBytes, blocks_in, cells_in}
 use Rattle.cd_restart.specs.ScanFaults.{scan_fault}
 
 -- some blocks, without pins
 abbrev pub world_of : List Descr → World
 world_of blocks = record { blocks = blocks; pins = []; next = 0 }
+
+-- what was read of contents, which are bytes: all blocks, how many cells, and their counts together
+pub record IsRead (contents : Contents) (opened : Opened) : Type 0 where
+  pub fit : AreBytes contents
+  pub blocks_are : opened.blocks ≡ blocks_in contents
+  pub cells_are : opened.cells ≡ length (cells_in contents)
+  pub counts_are : opened.counts ≡ min (sum_by (λ c. c.1.count) (cells_in contents)) (2 ^ 64 - 1)
 
 module _ (H : List ℕ → Hash256) where
   -- the contents are those of this world, which is sound and has no pins

@@ -139,6 +139,13 @@ module _ (H : List ℕ → Hash256) where
   abbrev pub kids_fault : List Stored → List Stored → Option ScanFault
   kids_fault all cells = option_or (first_of (missing_fault H all) cells) (first_of (kid_fault H all) cells)
 
+  -- the refusals of cells that were read, and of blocks over them
+  abbrev pub counted_fault : List Descr → List Stored → Option ScanFault
+  counted_fault blocks cells =
+      option_or (kids_fault cells cells)
+      (option_or (roots_fault cells blocks)
+      (first_of (count_fault blocks cells) cells))
+
   -- why contents aren't those of a sound world
   abbrev pub scan_fault : Contents → Option ScanFault
   scan_fault contents =
@@ -147,6 +154,4 @@ module _ (H : List ℕ → Hash256) where
       option_or (first_of desc_fault (finite.entries contents.descs))
       (option_or (first_of lineage_refusal blocks)
       (option_or (cells_fault (finite.entries contents.cells) cells)
-      (option_or (kids_fault cells cells)
-      (option_or (roots_fault cells blocks)
-      (first_of (count_fault blocks cells) cells)))))
+      (counted_fault blocks cells)))
