@@ -28,10 +28,12 @@ use Rattle.cd_restart.specs.Rows.{row_after, rows_of, kid_references, root_refer
 use Rattle.cd_restart.specs.ScanFaults.{unless, places_in, references, row_fault, count_fault, scan_fault}
 use Rattle.cd_restart.specs.Stored.{Entry, Stored, blocks_in, cells_in, AreBytes}
 use Rattle.cd_restart.proofs.FreeOfFaults.{no_fault}
-use Rattle.std.proofs.Common.{eqb, length-map}
+use Rattle.std.proofs.Common.{eqb}
+use Rattle.std.proofs.lemmas.List.{length-map}
 use Rattle.cd_restart.proofs.Matching.{sum_by-each, faces-match, counts-match}
 use Rattle.cd_restart.proofs.SoundStores.{no_scan_fault}
 use Rattle.cd_restart.proofs.StoredWorlds as stored
+use Rattle.cd_restart.proofs.Walking.{if_some-map, if_some-both}
 
 -- ---- counts
 
@@ -113,3 +115,14 @@ module _ (H : List ℕ → Hash256) (long : (m : List ℕ) → length (let h = H
         cells = read.cells_are ∙ same_length;
         counts = read.counts_are ∙ ap (λ n. min n (2 ^ 64 - 1)) same_sum;
       })
+
+module _ (H : List ℕ → Hash256) (long : (m : List ℕ) → length (let h = H m in h.0) ≡ 32) (o : Option Contents) where
+  pub all-opened : (r : Result Opened ScanFault) → IfSome o (λ contents. Answers (scan_fault H contents) r) → IfOk r (λ x. IfSome o (λ contents. IsRead contents x))
+      → IfOk r (λ x. IfSome o (λ contents. IsOpened H contents x))
+  all-opened (Ok x) answered read = if_some-both (λ contents. scan_fault H contents ≡ None) (λ contents. IsRead contents x) (λ contents. IsOpened H contents x) o answered read
+      (λ contents none is. opened H long contents x none is)
+  all-opened (Err e) answered read = tt
+
+  pub all-damaged : (r : Result Opened ScanFault) → IfSome o (λ contents. Answers (scan_fault H contents) r) → IfErr r (λ e. IfSome o (λ contents. IsDamaged H contents e))
+  all-damaged (Ok x) answered = tt
+  all-damaged (Err e) answered = if_some-map (λ contents. Refuses (scan_fault H contents) e) (λ contents. IsDamaged H contents e) o answered (λ contents is. damaged H long contents e is)

@@ -32,14 +32,14 @@ pub fn read_blocks<K: Keeper>(alloc: Global, keeper: &mut K) -> Result<Vec<Descr
     ensures keeps { KeepsHeld K.held K.trail K.batches keeper.old keeper.new }
     ensures cause { HasScanCause (K.faults keeper.old) (K.faults keeper.new) result }
 {
-    let mut blocks = Vec::new(alloc);
+    let mut all = Vec::new(alloc);
     let mut after = None;
     'reading: for _ in 0..u64::MAX {
         let Some(block) = next_block(alloc, keeper, after)? else {
-            return Ok(blocks);
+            return Ok(all);
         };
         after = Some(block.id.to_key());
-        blocks.push(block)?;
+        all.push(block)?;
     }
     // No memory could hold as many.
     Err(ScanFault::Memory)

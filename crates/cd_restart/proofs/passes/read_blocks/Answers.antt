@@ -10,8 +10,8 @@ use Rattle.cd_restart.proofs.passes.read_blocks.Goals as goal
 
 pub reading-init : goal.reading-init
 reading-init g c = record {
-  read = if_some-all (λ (contents : Contents). AreBlocksRead (finite.entries contents.descs) None c.new-blocks.result.items) (g.K.Keeper.held c.args.keeper.now)
-      (λ contents. subst (AreBlocksRead (finite.entries contents.descs) None) (sym c.new-blocks.ensures.items) (blocks-start (finite.entries contents.descs)));
+  read = if_some-all (λ (contents : Contents). AreBlocksRead (finite.entries contents.descs) None c.new-all.result.items) (g.K.Keeper.held c.args.keeper.now)
+      (λ contents. subst (AreBlocksRead (finite.entries contents.descs) None) (sym c.new-all.ensures.items) (blocks-start (finite.entries contents.descs)));
   keeps = record { same_held = refl; same_trail = refl; same_batches = refl };
   steady = refl;
 }
@@ -22,7 +22,7 @@ reading-preserved g c =
     let step = c.in_ok-block.ensures in
     let block = c.in-Some.block in
     let after = c.reading.after in
-    let blocks = c.reading.blocks in
+    let blocks = c.reading.all in
     let next = λ (contents : Contents). IsNext desc_fault IsBlockNext (finite.entries contents.descs) after (Ok c.in_ok-block.field-0) in
     let before = λ (contents : Contents). AreBlocksRead (finite.entries contents.descs) after blocks.items in
     let later = λ (contents : Contents). AreBlocksRead (finite.entries contents.descs) (Some c.to_key.result) c.push.new.self.items in

@@ -7,7 +7,7 @@ use Rattle.cd_restart.proofs.passes.read_blocks.Given as goal
 
 abbrev pub invariant-reading : goal.invariant-reading
 invariant-reading g l = record {
-  read : IfSome (g.K.Keeper.held l.fn.keeper) (λ (contents : Contents). AreBlocksRead (finite.entries contents.descs) l.after l.blocks.items);
+  read : IfSome (g.K.Keeper.held l.fn.keeper) (λ (contents : Contents). AreBlocksRead (finite.entries contents.descs) l.after l.all.items);
   keeps : KeepsHeld g.K.Keeper.held g.K.Keeper.trail g.K.Keeper.batches l.fn.keeper l.keeper;
   steady : g.K.Keeper.faults l.keeper ≡ g.K.Keeper.faults l.fn.keeper;
 }
