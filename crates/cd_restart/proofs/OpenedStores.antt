@@ -1,5 +1,5 @@
 -- From what was read to what is opened.
-use Rattle.std.proofs.Common.{◌≡◌, ℕ, ◌+◌, ◌-◌, ◌^◌, Bool, cond, List, [], ◌∷◌, ◌++◌, map, flat_map, length, Option, Some, None, Result, Ok, Err, Contains, IfSome, refl, sym, ap, ap₂, ◌∙◌, subst, add_comm}
+use Rattle.std.proofs.Common.{◌≡◌, ℕ, suc, ◌+◌, ◌-◌, ◌^◌, Bool, cond, List, [], ◌∷◌, ◌++◌, map, flat_map, length, Option, Some, None, Result, Ok, Err, Contains, IfSome, refl, sym, ap, ap₂, ◌∙◌, subst, add_comm}
 use Rattle.std.specs.Prelude.{min, IfOk, IfErr}
 use Rattle.std.specs.List.{sum_by, count_by}
 use Rattle.std.specs.Option.{option_or}
@@ -29,7 +29,6 @@ use Rattle.cd_restart.specs.ScanFaults.{unless, places_in, references, row_fault
 use Rattle.cd_restart.specs.Stored.{Entry, Stored, blocks_in, cells_in, AreBytes}
 use Rattle.cd_restart.proofs.FreeOfFaults.{no_fault}
 use Rattle.std.proofs.Common.{eqb}
-use Rattle.std.proofs.lemmas.List.{length-map}
 use Rattle.cd_restart.proofs.Matching.{sum_by-each, faces-match, counts-match}
 use Rattle.cd_restart.proofs.SoundStores.{no_scan_fault}
 use Rattle.cd_restart.proofs.StoredWorlds as stored
@@ -66,6 +65,10 @@ module _ (H : List ℕ → Hash256) (blocks : List Descr) (cells : List Stored) 
   pub rows-sum : (hashes : List Hash256) → sum_by (λ (r : RowView). r.stored) (rows_of H cells hashes) ≡ sum_by (λ (c : Stored). c.1.count) cells
   rows-sum hashes = sum_by-map (λ (r : RowView). r.stored) (row_after H hashes) cells
 
+mapped : {A B : Type 0} (f : A → B) (xs : List A) → length (map f xs) ≡ length xs
+mapped f [] = refl
+mapped f (x ∷ xs) = ap suc (mapped f xs)
+
 -- ---- what is opened
 
 module _ (H : List ℕ → Hash256) (long : (m : List ℕ) → length (let h = H m in h.0) ≡ 32) (contents : Contents) where
@@ -94,9 +97,9 @@ module _ (H : List ℕ → Hash256) (long : (m : List ℕ) → length (let h = H
       let matching = stored.matching H contents fits each in
       let cells = cells_in contents in
       let same_length : length cells ≡ finite.len (held H t) =
-      sym (length-map (λ (c : Stored). (let h = c.0 in h.0, c.1.face)) cells)
+      sym (mapped (λ (c : Stored). (let h = c.0 in h.0, c.1.face)) cells)
       ∙ sym (ap length (faces-match H t cells matching))
-      ∙ length-map (λ (e : List ℕ × Tree). (e.0, face_of H e.1)) (finite.entries (held H t))
+      ∙ mapped (λ (e : List ℕ × Tree). (e.0, face_of H e.1)) (finite.entries (held H t))
       ∙ sym (finite.len-entries (held H t)) in
       let counted : List ℕ × FaceView → ℕ = λ e. count H t e.0 in
       let same_sum : sum_by (λ (c : Stored). c.1.count) cells ≡ all_counts H t =
