@@ -1,5 +1,5 @@
 -- First faults: there is none exactly where no element has one.
-use Rattle.std.proofs.Common.{◌≡◌, Bool, true, false, List, [], ◌∷◌, ◌++◌, map, Option, Some, None, Contains, refl, sym, ap, ◌∙◌, ⊎_elim, subst}
+use Rattle.std.proofs.Common.{◌≡◌, Bool, true, false, List, [], ◌∷◌, ◌++◌, Option, Some, None, Contains, refl, sym, ap, ◌∙◌, ⊎_elim, subst}
 use Rattle.std.specs.Option.{option_or}
 use Rattle.cd_cell.proofs.Subtrees.{Contains-first, Contains-later, Contains-cases, Contains-nil}
 use Rattle.cd_restart.specs.declared.scan_fault.ScanFault.{ScanFault}

@@ -1,15 +1,11 @@
 -- What is so of contents of which nothing is refused.
-use Rattle.std.proofs.Common.{◌≡◌, ℕ, ◌+◌, ◌≤◌, ◌<◌, Bool, true, false, cond, List, [], ◌∷◌, map, length, Option, Some, None, Result, Ok, Err, Contains, Less, refl, sym, ap, ap₂, ◌∙◌, subst, arith, eqb}
-use Rattle.std.specs.Prelude.{is_some, is_none}
-use Rattle.std.specs.Option.{option_map, option_or}
-use Rattle.std.specs.List.{filter_map, AllByRecursion}
+use Rattle.std.proofs.Common.{◌≡◌, ℕ, true, List, Option, Some, None, Result, Ok, Err, Contains, refl, sym, ap, ap₂, ◌∙◌, subst}
+use Rattle.std.specs.Prelude.{is_some}
 use Rattle.std.specs.Ordering.{on}
 use Rattle.std.specs.FinMap as finite
-use Rattle.std.proofs.lemmas.Bool.{eqb-true, and_parts}
 use Rattle.std.proofs.lemmas.Option.{none-some, same_Some}
 use Rattle.std.proofs.lemmas.List.Elements.{All-contains, All-from_recursion}
 use Rattle.cd_base.specs.declared.hash.Hash256.{Hash256}
-use Rattle.cd_base.specs.Numbers.{IsBytes}
 use Rattle.cd_block.specs.declared.description.Descr.{Descr}
 use Rattle.cd_block.specs.declared.description.DescrFault.{DescrFault}
 use Rattle.cd_block.specs.Block.{key_of, id_cmp}
@@ -17,12 +13,6 @@ use Rattle.cd_block.specs.Description.{descr_text, IsDescr, IsDescrFit}
 use Rattle.cd_block.specs.Reading.{descr_in}
 use Rattle.cd_block.proofs.Descriptions as descriptions
 use Rattle.cd_block.proofs.Order.{id_cmp_is}
-use Rattle.cd_cell.specs.declared.info.ChildInfo.{ChildInfo}
-use Rattle.cd_cell.specs.Equality.{same_hash, same_info, same_hash-Decides, same_info-Decides}
-use Rattle.cd_cell.specs.FaceView.{FaceView}
-use Rattle.cd_cell.specs.Infos.{rep_of_info}
-use Rattle.cd_cell.specs.Levels.{mask_of_face, info_of_face, rep_of_face, height_of_face}
-use Rattle.cd_cell.specs.Steady.{IsSteady}
 use Rattle.cd_cell.proofs.Distinct.{Rises}
 use Rattle.cd_record.specs.declared.record.Record.{Record}
 use Rattle.cd_record.specs.declared.record_fault.RecordFault.{RecordFault}
@@ -30,16 +20,13 @@ use Rattle.cd_record.specs.Records.{IsRecord, IsTextOf}
 use Rattle.cd_record.specs.RecordReading.{record_in}
 use Rattle.cd_record.proofs.RecordLaws as records
 use Rattle.cd_keeper.specs.Contents.{Contents}
-use Rattle.cd_world.specs.Unfolded.{face_in}
-use Rattle.cd_restart.specs.declared.scan_fault.ScanFault.{ScanFault}
-use Rattle.cd_restart.specs.declared.scan_fault.ScanFault.TheVariants as refusal
 use Rattle.cd_restart.specs.Lists.{first_of}
 use Rattle.cd_restart.specs.Stored.{Entry, Stored, read_descr, read_cell, descr_of, cell_of, blocks_in, cells_in, IsDescEntry, IsCellEntry, AreBytes}
-use Rattle.cd_restart.specs.ScanFaults.{desc_fault, lineage_refusal, has_lineage, record_fault, record_at, key_fault, missing_fault, missing_kid, kid_fault, other_kid, is_shown, is_plain, root_fault, depth_fault, depth_refusal, references, count_fault, cells_fault, kids_fault, roots_fault, scan_fault}
-use Rattle.cd_restart.proofs.Faults.{neither, holds, first_of-none}
-use Rattle.cd_restart.proofs.Tables.{byte_cmp, by_key, table-in_order, table-got}
-use Rattle.cd_restart.proofs.ReadLists.{told-of, of-told, rises-told, record-under, face-under}
-use Rattle.cd_restart.proofs.UnfoldedCells.{hash_of, AreFitting}
+use Rattle.cd_restart.specs.ScanFaults.{desc_fault, lineage_refusal, record_fault, key_fault, missing_fault, kid_fault, root_fault, depth_fault, count_fault, cells_fault, kids_fault, roots_fault, scan_fault}
+use Rattle.cd_restart.proofs.Faults.{neither}
+use Rattle.cd_restart.proofs.Tables.{byte_cmp, by_key, table-in_order}
+use Rattle.cd_restart.proofs.ReadLists.{told-of, of-told, rises-told}
+use Rattle.cd_restart.proofs.UnfoldedCells.{hash_of}
 
 -- each refusal by itself
 pub record NoFault (H : List ℕ → Hash256) (contents : Contents) : Type 0 where

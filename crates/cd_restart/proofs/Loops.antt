@@ -1,9 +1,8 @@
 -- Loops that look for two kinds of faults: the first of the one ends them, and the first of the other is kept.
-use Rattle.std.proofs.Common.{◌≡◌, ℕ, ◌+◌, ◌<◌, ◌≤◌, List, [], ◌∷◌, ◌++◌, map, take, drop, length, get_or, Option, Some, None, refl, sym, ap, ◌∙◌, subst, append_assoc}
+use Rattle.std.proofs.Common.{◌≡◌, ℕ, ◌+◌, ◌<◌, ◌≤◌, List, [], ◌∷◌, ◌++◌, map, take, drop, length, get_or, Option, Some, None, refl, sym, ap, ◌∙◌, append_assoc}
 use Rattle.std.specs.Prelude.{IfSome}
 use Rattle.std.specs.Option.{option_or}
 use Rattle.std.proofs.lemmas.List.{map_push, take_more, at_drop_more, at_drop_all}
-use Rattle.std.proofs.lemmas.Option.{none-some}
 use Rattle.cd_restart.specs.declared.scan_fault.ScanFault.{ScanFault}
 use Rattle.cd_restart.specs.declared.scan_fault.ScanFault.TheVariants as refusal
 use Rattle.cd_restart.specs.Lists.{first_of}

@@ -1,5 +1,5 @@
 -- Where the held cells have the faces that are stored, references are counted alike by the one and by the other.
-use Rattle.std.proofs.Common.{◌≡◌, ℕ, zero, suc, ◌+◌, ◌≤◌, ◌<◌, Bool, true, false, cond, List, [], ◌∷◌, map, Option, Some, None, Contains, Less, Ordering, refl, sym, ap, ap₂, ◌∙◌, subst, inl, inr, ⊎_elim, ◌⊎◌, arith}
+use Rattle.std.proofs.Common.{◌≡◌, ℕ, zero, suc, ◌+◌, ◌≤◌, Bool, true, false, cond, List, [], ◌∷◌, map, Some, Contains, refl, sym, ap, ap₂, ◌∙◌, subst, inl, inr, ⊎_elim, ◌⊎◌, arith}
 use Rattle.std.specs.List.{count_by, sum_by}
 use Rattle.std.specs.Ordering.{on}
 use Rattle.std.specs.Str.{bytes_eq}
@@ -13,13 +13,13 @@ use Rattle.cd_cell.specs.FaceView.{FaceView}
 use Rattle.cd_cell.specs.Infos.{rep_of_info}
 use Rattle.cd_cell.specs.Tree.{Tree, children, info_of, face_of, rep_of}
 use Rattle.cd_cell.proofs.Distinct.{Rises, same-rising}
-use Rattle.cd_cell.proofs.Subtrees.{Contains-first, Contains-later, Contains-nil, Contains-map, Contains-mapped, kids-face_of}
+use Rattle.cd_cell.proofs.Subtrees.{Contains-first, Contains-later, Contains-map, Contains-mapped, kids-face_of}
 use Rattle.cd_world.specs.World.{Block, has_hash, places_of}
 use Rattle.cd_world.specs.Told.{ToldWorld, block_of, held, count}
 use Rattle.cd_world.proofs.CountLaws.{sum_by-map}
 use Rattle.cd_restart.specs.Stored.{Stored}
 use Rattle.cd_restart.specs.ScanFaults.{places_in, references}
-use Rattle.cd_restart.proofs.Tables.{byte_cmp, by_key, by_key-total, AreInOrder, table-in_order, table-get, table-got, rises-map}
+use Rattle.cd_restart.proofs.Tables.{byte_cmp, by_key, by_key-total, table-in_order, table-get, table-got, rises-map}
 
 -- ---- sums
 

@@ -1,5 +1,5 @@
 -- What is read next of a table: a cell, a block, or a refusal.
-use Rattle.std.proofs.Common.{◌≡◌, ◌≢◌, ℕ, List, [], ◌∷◌, length, Option, Some, None, Result, Ok, Err, refl, sym, ap, ◌∙◌, subst}
+use Rattle.std.proofs.Common.{◌≡◌, ◌≢◌, ℕ, List, ◌∷◌, length, Option, Some, Result, Ok, Err, ap, ◌∙◌}
 use Rattle.std.specs.Option.{option_or}
 use Rattle.std.specs.FinMap as finite
 use Rattle.cd_base.specs.declared.hash.Hash256.{Hash256}
@@ -13,11 +13,10 @@ use Rattle.cd_record.specs.declared.record.Record.{Record}
 use Rattle.cd_record.specs.declared.record_fault.RecordFault.{RecordFault}
 use Rattle.cd_record.specs.RecordReading.{record_in}
 use Rattle.cd_keeper.specs.Contents.{Table, next_entry}
-use Rattle.cd_restart.specs.declared.scan_fault.ScanFault.{ScanFault}
 use Rattle.cd_restart.specs.declared.scan_fault.ScanFault.TheVariants as refusal
 use Rattle.cd_restart.specs.Answers.{of_descr, Refuses, IsCaused}
 use Rattle.cd_restart.specs.Lists.{first_of}
-use Rattle.cd_restart.specs.Stored.{Entry, Stored, read_cell, read_descr}
+use Rattle.cd_restart.specs.Stored.{read_cell, read_descr}
 use Rattle.cd_restart.specs.ScanFaults.{unrecorded, undescribed, record_fault, desc_fault}
 use Rattle.cd_restart.specs.Walks.{above, IsCellNext, IsBlockNext}
 use Rattle.cd_restart.proofs.Walking.{next-some}

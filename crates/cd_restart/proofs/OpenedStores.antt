@@ -1,5 +1,5 @@
 -- From what was read to what is opened.
-use Rattle.std.proofs.Common.{◌≡◌, ℕ, suc, ◌+◌, ◌-◌, ◌^◌, Bool, cond, List, [], ◌∷◌, ◌++◌, map, flat_map, length, Option, Some, None, Result, Ok, Err, Contains, IfSome, refl, sym, ap, ap₂, ◌∙◌, subst, add_comm}
+use Rattle.std.proofs.Common.{◌≡◌, ℕ, suc, ◌+◌, ◌-◌, ◌^◌, cond, List, [], ◌∷◌, ◌++◌, map, length, Option, Some, None, Result, Ok, Err, IfSome, refl, sym, ap, ap₂, ◌∙◌, subst, add_comm}
 use Rattle.std.specs.Prelude.{min, IfOk, IfErr}
 use Rattle.std.specs.List.{sum_by, count_by}
 use Rattle.std.specs.Option.{option_or}
@@ -8,13 +8,12 @@ use Rattle.std.proofs.lemmas.List.Sums.{sum_by-append, sum_by-cons}
 use Rattle.std.proofs.lemmas.Option.{none-some}
 use Rattle.cd_base.specs.declared.hash.Hash256.{Hash256}
 use Rattle.cd_block.specs.declared.description.Descr.{Descr}
-use Rattle.cd_cell.specs.declared.info.ChildInfo.{ChildInfo}
 use Rattle.cd_cell.specs.Equality.{same_hash}
 use Rattle.cd_cell.specs.FaceView.{FaceView}
 use Rattle.cd_cell.specs.Infos.{rep_of_info}
 use Rattle.cd_cell.specs.Tree.{Tree, face_of}
 use Rattle.cd_keeper.specs.Contents.{Contents}
-use Rattle.cd_world.specs.Told.{ToldWorld, held, count}
+use Rattle.cd_world.specs.Told.{held, count}
 use Rattle.cd_world.specs.Unfolded.{told_in}
 use Rattle.cd_world.proofs.CountLaws.{sum_by-map}
 use Rattle.cd_restart.specs.declared.opened.Opened.{Opened}
@@ -26,7 +25,7 @@ use Rattle.cd_restart.specs.Opened.{world_of, all_counts, IsRead, IsOpened, IsDa
 use Rattle.cd_restart.specs.RowView.{RowView}
 use Rattle.cd_restart.specs.Rows.{row_after, rows_of, kid_references, root_references}
 use Rattle.cd_restart.specs.ScanFaults.{unless, places_in, references, row_fault, count_fault, scan_fault}
-use Rattle.cd_restart.specs.Stored.{Entry, Stored, blocks_in, cells_in, AreBytes}
+use Rattle.cd_restart.specs.Stored.{Stored, blocks_in, cells_in}
 use Rattle.cd_restart.proofs.FreeOfFaults.{no_fault}
 use Rattle.std.proofs.Common.{eqb}
 use Rattle.cd_restart.proofs.Matching.{sum_by-each, faces-match, counts-match}

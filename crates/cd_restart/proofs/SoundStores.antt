@@ -1,7 +1,7 @@
 -- Of the contents of a sound world nothing is refused, and their blocks are the world's.
-use Rattle.std.proofs.Common.{◌≡◌, ℕ, ◌≤◌, Bool, true, false, cond, not, List, [], ◌∷◌, map, flat_map, length, Option, Some, None, Result, Ok, Err, Contains, All, Less, refl, sym, ap, ap₂, ◌∙◌, subst, inl, inr, ⊎_elim, ◌⊎◌, arith, eqb, eq-eqb}
-use Rattle.std.specs.Prelude.{is_some, is_none, ◌||◌, ◌&&◌}
-use Rattle.std.specs.Option.{option_map, option_or}
+use Rattle.std.proofs.Common.{◌≡◌, ℕ, Bool, true, false, cond, not, List, [], ◌∷◌, map, length, Option, Some, None, Result, Ok, Err, Contains, refl, sym, ap, ap₂, ◌∙◌, subst, inl, eqb, eq-eqb}
+use Rattle.std.specs.Prelude.{is_some, is_none, ◌||◌}
+use Rattle.std.specs.Option.{option_map}
 use Rattle.std.specs.Ordering.{on}
 use Rattle.std.specs.FinMap as finite
 use Rattle.std.specs.FinMap.{get, get-from_entries}
@@ -15,7 +15,6 @@ use Rattle.cd_base.specs.Numbers.{IsBytes}
 use Rattle.cd_base.proofs.ReadingLaws.{ok_is}
 use Rattle.cd_block.specs.declared.block.BlockId.{BlockId}
 use Rattle.cd_block.specs.declared.description.Descr.{Descr}
-use Rattle.cd_block.specs.declared.description.DescrFault.{DescrFault}
 use Rattle.cd_block.specs.declared.ancestry.LineageFault.{LineageFault}
 use Rattle.cd_block.specs.Block.{key_of, id_cmp}
 use Rattle.cd_block.specs.Description.{descr_text}
@@ -24,12 +23,12 @@ use Rattle.cd_block.specs.Reading.{descr_in}
 use Rattle.cd_block.proofs.Descriptions.{descr_again}
 use Rattle.cd_block.proofs.Order.{id_cmp_is}
 use Rattle.cd_cell.specs.declared.info.ChildInfo.{ChildInfo}
-use Rattle.cd_cell.specs.Equality.{same_hash, same_info, same_hash-Decides, same_info-Decides}
+use Rattle.cd_cell.specs.Equality.{same_hash, same_hash-Decides, same_info-Decides}
 use Rattle.cd_cell.specs.FaceView.{FaceView}
 use Rattle.cd_cell.specs.Infos.{rep_of_info, height_of_info}
 use Rattle.cd_cell.specs.Levels.{mask_of_face, info_of_face, rep_of_face, height_of_face}
-use Rattle.cd_cell.specs.Tree.{Tree, children, info_of, face_of, rep_of, height_of, mask_of}
-use Rattle.cd_cell.proofs.Distinct.{Rises, same-rising, rises-from_AllPairs}
+use Rattle.cd_cell.specs.Tree.{Tree, children, info_of, face_of, rep_of}
+use Rattle.cd_cell.proofs.Distinct.{same-rising, rises-from_AllPairs}
 use Rattle.cd_cell.proofs.Subtrees.{Contains-map, Contains-mapped, flat_map-listed, flat_map-subtree, subtree-itself, child-is-subtree, info_of-face_of, kids-face_of}
 use Rattle.cd_record.specs.declared.record.Record.{Record}
 use Rattle.cd_record.specs.declared.record_fault.RecordFault.{RecordFault}
@@ -39,17 +38,16 @@ use Rattle.cd_record.specs.RecordText.{record_text}
 use Rattle.cd_record.proofs.RecordLaws as records
 use Rattle.cd_keeper.specs.Contents.{Contents}
 use Rattle.cd_world.specs.World as trees
-use Rattle.cd_world.specs.Image.{is_version_1, renewed, plain_record, descr_entry, image_of, IsContentsOf}
-use Rattle.cd_world.specs.Standing.{IsBeforeBlock}
-use Rattle.cd_world.specs.Told.{ToldWorld, block_of, shown, states_of, held, count, image, IsSoundBlock, IsSound}
+use Rattle.cd_world.specs.Image.{is_version_1, renewed, plain_record, descr_entry, IsContentsOf}
+use Rattle.cd_world.specs.Told.{ToldWorld, block_of, shown, states_of, held, count, IsSound}
 use Rattle.cd_world.proofs.EqualImages.{cells_of, held_is_cell, cell_is_held, record_of, state_sound, IsRecord-cell, record-cell}
 use Rattle.cd_world.proofs.Held.{rep_bytes}
 use Rattle.cd_world.proofs.Orders.{id_cmp-total}
 use Rattle.cd_world.proofs.Plain.{contents-cell, contents-desc, image-cell, record_value}
 use Rattle.cd_restart.specs.declared.scan_fault.ScanFault.TheVariants as refusal
 use Rattle.cd_restart.specs.Lists.{first_of}
-use Rattle.cd_restart.specs.Stored.{Entry, Stored, read_descr, read_cell, descr_of, cell_of, blocks_in, cells_in, IsCellEntry, AreBytes}
-use Rattle.cd_restart.specs.ScanFaults.{unless, undescribed, desc_fault, lineage_refusal, has_lineage, is_nothing, unrecorded, record_fault, record_at, key_fault, missing_fault, missing_kid, kid_fault, other_kid, is_shown, is_plain, root_fault, depth_fault, depth_refusal, references, count_fault, scan_fault}
+use Rattle.cd_restart.specs.Stored.{Entry, Stored, read_descr, descr_of, cell_of, blocks_in, cells_in, IsCellEntry, AreBytes}
+use Rattle.cd_restart.specs.ScanFaults.{undescribed, desc_fault, lineage_refusal, has_lineage, is_nothing, unrecorded, record_fault, record_at, key_fault, missing_fault, missing_kid, kid_fault, other_kid, is_shown, is_plain, root_fault, depth_fault, depth_refusal, references, count_fault, scan_fault}
 use Rattle.cd_restart.proofs.Faults.{or_none, no_refusal, first_of-clear}
 use Rattle.cd_restart.proofs.FreeOfFaults.{descr-read, cell-read, blocks-rise, cells-rise}
 use Rattle.cd_restart.proofs.Matching.{AreHeld, counts-match}
@@ -242,11 +240,12 @@ module _ (H : List ℕ → Hash256) (long : (m : List ℕ) → length (let h = H
       let p = member c h in
       let below = Contains-map (info_of H) (children p.0) k
       (subst (λ (ks : List ChildInfo). Contains ks k) (ap (λ (r : Record). (r.face).kids) p.3 ∙ kids-face_of H p.0) in-k) in
-      let s = below.0 in
-      (s,
-      ap (λ (x : ChildInfo). record_at cells (rep_of_info x)) (sym below.2)
-      ∙ record-at s (flat_map-subtree (states_of t) p.0 s p.1 (child-is-subtree p.0 s below.1)),
-      sym below.2)
+      let s = below.0 in (
+        s,
+        ap (λ (x : ChildInfo). record_at cells (rep_of_info x)) (sym below.2)
+            ∙ record-at s (flat_map-subtree (states_of t) p.0 s p.1 (child-is-subtree p.0 s below.1)),
+        sym below.2,
+      )
 
   no_missing_fault : first_of (missing_fault H cells) cells ≡ None
   no_missing_fault = first_of-clear (missing_fault H cells) cells (λ c h. first_of-clear (missing_kid H cells c.0) c.1.face.kids (λ k in-k.

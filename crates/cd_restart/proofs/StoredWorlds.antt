@@ -1,17 +1,16 @@
 -- Contents of which nothing is refused are those of a sound world.
-use Rattle.std.proofs.Common.{◌≡◌, ℕ, zero, suc, ◌+◌, ◌≤◌, ◌<◌, Bool, true, false, cond, not, List, [], ◌∷◌, map, flat_map, length, Option, Some, None, Result, Ok, Err, Contains, All, AllPairs, Less, Equal, refl, sym, ap, ap₂, ◌∙◌, subst, inl, inr, ⊎_elim, ◌⊎◌, arith, eqb}
-use Rattle.std.specs.Prelude.{is_some, is_none, IsSome, ◌||◌}
+use Rattle.std.proofs.Common.{◌≡◌, ℕ, zero, suc, ◌+◌, ◌≤◌, ◌<◌, true, cond, not, List, [], map, Option, Some, None, Result, Ok, Err, Contains, refl, sym, ap, ap₂, ◌∙◌, subst, inl, inr, ⊎_elim, arith, eqb}
+use Rattle.std.specs.Prelude.{is_some, is_none, ◌||◌}
 use Rattle.std.specs.List.{AllByRecursion}
 use Rattle.std.specs.Option.{option_map}
 use Rattle.std.specs.Ordering.{on}
 use Rattle.std.specs.FinMap as finite
 use Rattle.std.specs.FinMap.{get, same_map, get-from_entries, slice_cmp-IsAntisymmetric, nat_cmp-IsAntisymmetric}
-use Rattle.std.specs.Cmp.Lexicographic.{slice_cmp, nat_list_cmp_total}
+use Rattle.std.specs.Cmp.Lexicographic.{nat_list_cmp_total}
 use Rattle.std.proofs.lemmas.Bool.{eqb-true, and_parts, true≢false}
 use Rattle.std.proofs.lemmas.Option.{none-some, same_Some}
 use Rattle.std.proofs.lemmas.List.Elements.{All-nil, All-contains, All-from_recursion}
 use Rattle.cd_base.specs.declared.hash.Hash256.{Hash256}
-use Rattle.cd_base.specs.Numbers.{IsBytes}
 use Rattle.cd_block.specs.declared.block.BlockId.{BlockId}
 use Rattle.cd_block.specs.declared.description.Descr.{Descr}
 use Rattle.cd_block.specs.declared.ancestry.LineageFault.{LineageFault}
@@ -31,21 +30,20 @@ use Rattle.cd_world.specs.Image.{is_version_1, renewed, plain_record, plain_cell
 use Rattle.cd_world.proofs.Plain.{plain_record-text, get-plain_cells, record_value, image-cell}
 use Rattle.cd_restart.proofs.Tables.{byte_cmp, by_key, by_key-total, AreInOrder, table-in_order, table-get, table-got, rises-map}
 use Rattle.cd_cell.specs.declared.info.ChildInfo.{ChildInfo}
-use Rattle.cd_cell.specs.Equality.{same_hash, same_info, same_hash-Decides, same_info-Decides}
+use Rattle.cd_cell.specs.Equality.{same_hash, same_hash-Decides, same_info-Decides}
 use Rattle.cd_cell.specs.Export.{AreClashFree}
 use Rattle.cd_cell.specs.FaceView.{FaceView}
 use Rattle.cd_cell.specs.GoodFace.{IsGoodFace}
 use Rattle.cd_cell.specs.Infos.{rep_of_info, height_of_info}
 use Rattle.cd_cell.specs.Levels.{mask_of_face, info_of_face, rep_of_face, height_of_face}
 use Rattle.cd_cell.specs.Steady.{IsSteady}
-use Rattle.cd_cell.specs.Tree.{Tree, subtrees, children, info_of, face_of, rep_of, height_of, mask_of, IsWellFormed}
-use Rattle.cd_cell.proofs.Distinct.{Rises, AllPairs-from_rises, same-rising}
-use Rattle.cd_cell.proofs.Subtrees.{Contains-map, Contains-mapped, Contains-first, Contains-later, flat_map-cases, flat_map-listed, flat_map-subtree, subtree-itself, child-is-subtree, info_of-face_of}
+use Rattle.cd_cell.specs.Tree.{Tree, subtrees, info_of, face_of, rep_of, height_of, mask_of, IsWellFormed}
+use Rattle.cd_cell.proofs.Distinct.{AllPairs-from_rises, same-rising}
+use Rattle.cd_cell.proofs.Subtrees.{Contains-map, Contains-mapped, flat_map-cases, flat_map-listed, flat_map-subtree, subtree-itself, child-is-subtree, info_of-face_of}
 use Rattle.cd_record.specs.declared.limits.TheConstants.{GREATEST_COUNT}
 use Rattle.cd_record.specs.declared.record.Record.{Record}
 use Rattle.cd_record.specs.RecordReading.{record_in}
 use Rattle.cd_keeper.specs.Contents.{Table, Contents}
-use Rattle.cd_world.specs.declared.world.World.{World}
 use Rattle.cd_world.specs.Standing.{has_id, block_at, IsBeforeBlock, IsTidy}
 use Rattle.cd_world.specs.Told.{ToldWorld, block_of, shown, states_of, held, count, IsSoundBlock, IsSound}
 use Rattle.cd_world.specs.Unfolded.{face_in, tree_in, state_in, told_in}
@@ -58,11 +56,10 @@ use Rattle.cd_world.proofs.Searches.{find-passes, find-contains}
 use Rattle.cd_world.proofs.TidyWorlds.{found-there}
 use Rattle.cd_restart.specs.Stored.{Entry, Stored, read_descr, read_cell, descr_of, cell_of, blocks_in, cells_in, IsDescEntry, IsCellEntry, AreBytes}
 use Rattle.cd_restart.specs.ScanFaults.{undescribed, desc_fault, record_fault, record_at, lineage_refusal, has_lineage, is_nothing, key_fault, missing_fault, missing_kid, kid_fault, other_kid, is_shown, is_plain, root_fault, depth_fault, depth_refusal, references, count_fault}
-use Rattle.cd_restart.specs.ScanFaults as refusals
 use Rattle.cd_restart.specs.declared.scan_fault.ScanFault.TheVariants as refusal
 use Rattle.cd_restart.specs.Opened.{world_of}
 use Rattle.cd_restart.proofs.Faults.{holds, first_of-none}
-use Rattle.cd_restart.proofs.FreeOfFaults.{NoFault, IsBlockRead, IsCellRead, block-read, stored-read, blocks-rise, cells-rise, some_is}
+use Rattle.cd_restart.proofs.FreeOfFaults.{NoFault, block-read, stored-read, blocks-rise, cells-rise, some_is}
 use Rattle.cd_restart.proofs.Matching.{AreHeld, counts-match, referred}
 use Rattle.cd_restart.proofs.ReadLists.{is_read, recorded, of-told, record-under, face-under, stored-at}
 use Rattle.cd_restart.proofs.UnfoldedCells.{hash_of, AreFitting, kid-lower, tree-face, tree-well, tree-rep, cell-told, same_levels, kid-child}
@@ -312,10 +309,11 @@ module _ (H : List ℕ → Hash256) (contents : Contents) (fits : AreBytes conte
           let at = face-there c h in
           let below = low hash.0 c.1.face at in
           let s = tree_in contents 1025 c.0 in
-          let rep = tree-rep H contents fitting 1025 c.0 c.1.face at below in
-          (s,
-          ap (λ (q : Hash256). get (held H t) q.0) (sym rep) ∙ cell_is_held H t clear s (reached 1025 c h (omega arith)),
-          tree-face H contents fitting 1025 c.0 c.1.face at below)
+          let rep = tree-rep H contents fitting 1025 c.0 c.1.face at below in (
+            s,
+            ap (λ (q : Hash256). get (held H t) q.0) (sym rep) ∙ cell_is_held H t clear s (reached 1025 c h (omega arith)),
+            tree-face H contents fitting 1025 c.0 c.1.face at below,
+          )
 
       back : (q : List ℕ) (s : Tree) → get (held H t) q ≡ Some s → (c : Stored) × Contains cells c × (let h = c.0 in h.0 ≡ q) × (face_of H s ≡ c.1.face)
       back q s e =

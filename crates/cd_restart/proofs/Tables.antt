@@ -1,5 +1,5 @@
 -- Entries of tables, in the order of their keys.
-use Rattle.std.proofs.Common.{◌≡◌, ℕ, Bool, true, false, cond, List, [], ◌∷◌, map, filter, Option, Some, None, Contains, Less, Equal, Greater, Ordering, refl, sym, ap, ◌∙◌, subst, inl, inr, ⊎_elim, ◌⊎◌}
+use Rattle.std.proofs.Common.{◌≡◌, ℕ, Bool, true, false, cond, List, [], ◌∷◌, map, Some, Contains, Less, Equal, Greater, Ordering, refl, sym, ap, ◌∙◌, subst, inl, inr, ⊎_elim, ◌⊎◌}
 use Rattle.std.specs.Ordering.{nat_cmp, eq_by_cmp, is_lt, on}
 use Rattle.std.specs.Cmp.{IsTotalOrder, tied_itself, on_total}
 use Rattle.std.specs.Cmp.Lexicographic.{slice_cmp, nat_list_cmp_total}

@@ -1,5 +1,5 @@
 -- From records that fit one another to trees: what is unfolded has the faces that are stored.
-use Rattle.std.proofs.Common.{◌≡◌, ℕ, zero, suc, ◌<◌, List, [], ◌∷◌, map, Option, Some, None, Contains, refl, sym, ap, ap₂, ◌∙◌, subst, inl, inr, ⊎_elim, ◌⊎◌, arith}
+use Rattle.std.proofs.Common.{◌≡◌, ℕ, zero, suc, ◌<◌, List, [], ◌∷◌, map, Option, Some, Contains, refl, sym, ap, ap₂, ◌∙◌, subst, ⊎_elim, arith}
 use Rattle.cd_base.specs.declared.hash.Hash256.{Hash256}
 use Rattle.cd_cell.specs.declared.info.ChildInfo.{ChildInfo}
 use Rattle.cd_cell.specs.FaceView.{FaceView}
@@ -7,7 +7,7 @@ use Rattle.cd_cell.specs.GoodFace.{IsGoodFace}
 use Rattle.cd_cell.specs.Infos.{rep_of_info, height_of_info}
 use Rattle.cd_cell.specs.Levels.{info_of_face, rep_of_face, height_of_face}
 use Rattle.cd_cell.specs.Steady.{IsSteady}
-use Rattle.cd_cell.specs.Tree.{Tree, cell, trees_of, list_of, children, subtrees, info_of, infos_of, face_of, rep_of, IsWellFormed}
+use Rattle.cd_cell.specs.Tree.{Tree, trees_of, children, subtrees, info_of, infos_of, face_of, rep_of, IsWellFormed}
 use Rattle.cd_cell.proofs.Heights.{height_of_face-kid}
 use Rattle.cd_cell.proofs.Subtrees.{Contains-first, Contains-later, Contains-map, Contains-mapped, list_of-trees_of, subtrees-cases, IsWellFormed-from, info_of-face_of}
 use Rattle.cd_keeper.specs.Contents.{Contents}

@@ -1,11 +1,11 @@
 -- Going over a table: the entry that is met next is the first of those that are left.
-use Rattle.std.proofs.Common.{◌≡◌, ℕ, Bool, true, false, cond, List, [], ◌∷◌, filter, Option, Some, None, Contains, Less, Ordering, refl, sym, ap, ◌∙◌, subst, inl, inr, ⊎_elim, ◌⊎◌}
+use Rattle.std.proofs.Common.{◌≡◌, ℕ, Bool, true, false, cond, List, [], ◌∷◌, filter, Option, Some, None, Contains, Less, refl, sym, ap, ◌∙◌, subst}
 use Rattle.std.specs.Prelude.{find, IfSome}
 use Rattle.std.specs.Ordering.{is_lt}
 use Rattle.std.specs.Cmp.Lexicographic.{nat_list_cmp_total}
 use Rattle.std.specs.FinMap as finite
 use Rattle.std.proofs.lemmas.Option.{none-some, same_Some}
-use Rattle.cd_cell.proofs.Subtrees.{Contains-first, Contains-later, Contains-cases}
+use Rattle.cd_cell.proofs.Subtrees.{Contains-first, Contains-later}
 use Rattle.cd_keeper.specs.Contents.{Table, is_above, next_entry}
 use Rattle.cd_restart.specs.Stored.{Entry}
 use Rattle.cd_restart.specs.Walks.{above}

@@ -1,6 +1,6 @@
 -- Trusted: why a keeper's contents aren't those of a store: each refusal at the first key that has it, in the order of the keys,
 -- and all keys of one refusal before the next refusal.
-use Rattle.std.specs.Prelude.{ℕ, ◌+◌, ◌==◌, Bool, true, false, not, ◌&&◌, ◌||◌, List, [], ◌∷◌, find, Option, Some, None, is_none, is_some, Result, Ok, Err, if◌then◌else◌}
+use Rattle.std.specs.Prelude.{ℕ, ◌+◌, ◌==◌, Bool, true, false, not, ◌&&◌, ◌||◌, List, [], ◌∷◌, find, Option, Some, None, is_none, is_some, Result, Ok, Err}
 use Rattle.std.specs.Option.{option_map, option_or}
 use Rattle.std.specs.List.{count_by, sum_by}
 use Rattle.std.specs.FinMap as finite

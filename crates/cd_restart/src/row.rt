@@ -14,13 +14,8 @@ use std::marker::Model;
 /// What a cell shows of itself, in little space: one of mask 0 shows one hash and one depth at all levels.
 #[derive(Drop)]
 pub enum Shown {
-    Plain {
-        hash: Hash256,
-        depth: u16,
-    },
-    Masked {
-        info: Box<ChildInfo>,
-    },
+    Plain { hash: Hash256, depth: u16 },
+    Masked { info: Box<ChildInfo> },
 }
 
 impl Shown {

@@ -1,4 +1,4 @@
-use Rattle.std.proofs.Common.{◌≡◌, ℕ, List, ◌++◌, map, take, IfSome}
+use Rattle.std.proofs.Common.{ℕ, List, ◌++◌, map, take, IfSome}
 use Rattle.cd_base.specs.declared.hash.Hash256.{Hash256}
 use Rattle.cd_cell.specs.Infos.{rep_of_info}
 use Rattle.cd_restart.specs.Stored.{Stored}

@@ -1,6 +1,5 @@
-use Rattle.std.proofs.Common.{◌≡◌, List, ◌++◌, take, ap, subst}
+use Rattle.std.proofs.Common.{List, ◌++◌, subst}
 use Rattle.std.proofs.lemmas.List.{take_all}
-use Rattle.cd_base.specs.declared.hash.Hash256.{Hash256}
 use Rattle.cd_block.specs.declared.description.Descr.{Descr}
 use Rattle.cd_restart.specs.Rows.{AreRowsOf, root_references}
 use Rattle.cd_restart.proofs.checks.check_roots.Goals as goal

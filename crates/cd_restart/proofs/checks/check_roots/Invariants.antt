@@ -1,4 +1,4 @@
-use Rattle.std.proofs.Common.{◌≡◌, ℕ, List, ◌++◌, map, take, IfSome}
+use Rattle.std.proofs.Common.{ℕ, List, ◌++◌, take, IfSome}
 use Rattle.cd_base.specs.declared.hash.Hash256.{Hash256}
 use Rattle.cd_restart.specs.Stored.{Stored}
 use Rattle.cd_restart.specs.ScanFaults.{root_fault, depth_fault}

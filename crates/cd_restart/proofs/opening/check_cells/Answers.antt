@@ -1,4 +1,4 @@
-use Rattle.std.proofs.Common.{◌≡◌, ℕ, List, [], ◌++◌, None, refl, sym, ap, ap₂, ◌∙◌, subst}
+use Rattle.std.proofs.Common.{◌≡◌, ℕ, List, [], None, sym, ap, ap₂, ◌∙◌, subst}
 use Rattle.std.specs.Option.{option_or}
 use Rattle.std.specs.FinMap as finite
 use Rattle.cd_base.specs.declared.hash.Hash256.{Hash256}
@@ -6,7 +6,6 @@ use Rattle.cd_keeper.specs.Contents.{Contents}
 use Rattle.cd_restart.specs.Answers.{Answers}
 use Rattle.cd_restart.specs.Lists.{first_of}
 use Rattle.cd_restart.specs.Rows.{AreRowsOf, kid_references}
-use Rattle.cd_restart.specs.RowView.{RowView}
 use Rattle.cd_restart.specs.ScanFaults.{record_fault, row_fault, count_fault, kids_fault, counted_fault}
 use Rattle.cd_restart.specs.Stored.{cells_in}
 use Rattle.cd_restart.proofs.OpenedStores.{rows-faults}

@@ -1,4 +1,3 @@
-use Rattle.std.proofs.Common.{◌≡◌, ℕ, List, Option, Some, None, Result, Ok, Err, IfSome}
 use Rattle.cd_restart.proofs.OpenedStores.{all-damaged, all-opened}
 use Rattle.cd_restart.proofs.opening.scan.Goals as goal
 

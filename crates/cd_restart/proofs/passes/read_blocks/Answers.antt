@@ -1,4 +1,4 @@
-use Rattle.std.proofs.Common.{◌≡◌, ℕ, List, [], ◌∷◌, ◌++◌, Option, Some, None, Ok, IfSome, refl, sym, ap, ap₂, ◌∙◌, subst}
+use Rattle.std.proofs.Common.{ℕ, List, Option, Some, None, Ok, IfSome, refl, sym, ap₂, ◌∙◌, subst}
 use Rattle.std.specs.FinMap as finite
 use Rattle.cd_block.specs.declared.description.Descr.{Descr}
 use Rattle.cd_keeper.specs.Contents.{Contents}

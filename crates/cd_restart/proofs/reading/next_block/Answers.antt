@@ -1,4 +1,4 @@
-use Rattle.std.proofs.Common.{◌≡◌, ℕ, List, [], ◌∷◌, length, Some, None, refl, sym, ap, ap₂, ◌∙◌, subst}
+use Rattle.std.proofs.Common.{◌≡◌, [], length, sym, ap, ◌∙◌, subst}
 use Rattle.std.specs.Option.{option_map}
 use Rattle.std.specs.FinMap as finite
 use Rattle.cd_base.specs.Numbers.{IsBytes}
@@ -6,13 +6,12 @@ use Rattle.cd_block.specs.Reading.{descr_in}
 use Rattle.cd_block.proofs.Keys.{length-key_of}
 use Rattle.cd_keeper.specs.Contents.{Contents, next_entry}
 use Rattle.cd_keeper.specs.Shown.{entry_of, desc_bytes}
-use Rattle.cd_restart.specs.Answers.{of_descr, Refuses}
-use Rattle.cd_restart.specs.declared.scan_fault.ScanFault.{ScanFault}
+use Rattle.cd_restart.specs.Answers.{Refuses}
 use Rattle.cd_restart.specs.Lists.{first_of}
 use Rattle.cd_restart.specs.ScanFaults.{desc_fault}
 use Rattle.cd_restart.specs.Walks.{above, IsBlockNext}
 use Rattle.cd_restart.proofs.Walking.{if_some-map, next-none}
-use Rattle.cd_restart.proofs.NextEntries.{block-next, block-refuses, descr-caused}
+use Rattle.cd_restart.proofs.NextEntries.{block-next, block-refuses}
 use Rattle.cd_restart.proofs.reading.next_block.Goals as goal
 
 pub returns-in_default-clause-next : goal.returns-in_default-clause-next

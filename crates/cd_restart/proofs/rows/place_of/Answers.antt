@@ -1,7 +1,6 @@
-use Rattle.std.proofs.Common.{◌≡◌, ℕ, List, Option, Some, None, Result, Ok, Err, refl, rules}
+use Rattle.std.proofs.Common.{refl, rules}
 use Rattle.std.proofs.lemmas.Fn.{always_returns_same}
 use Rattle.cd_restart.specs.RowView.{RowView}
-use Rattle.cd_restart.specs.Rows.{AreRising, IsPlaceOf}
 use Rattle.cd_restart.proofs.RowLists.{place-found}
 use Rattle.cd_restart.proofs.rows.place_of.Goals as goal
 
