@@ -1,0 +1,15 @@
+pub mod Tables
+pub mod Faults
+pub mod ReadLists
+pub mod UnfoldedCells
+pub mod Matching
+pub mod FreeOfFaults
+pub mod StoredWorlds
+pub mod SoundStores
+pub mod PlainInfos
+pub mod RowLists
+pub mod Loops
+pub mod Walking
+pub mod NextEntries
+pub mod PassSteps
+pub mod OpenedStores
