@@ -48,7 +48,7 @@ written-marked m d is = elim (is_expired m d) as (λ b. let v = cond b (record d
 ]
 
 written-expired : (w : World) (m : Option Descr) → AreWritten w.blocks → AreWritten (let v = unless_expired w m in v.blocks)
-written-expired w None are = are
+written-expired w None are d h = are d h
 written-expired w (Some m) are d h =
     let left = filter (λ e. not (goes_at_once w m e)) w.blocks in
     let from = Contains-map (marked m) left d h in
