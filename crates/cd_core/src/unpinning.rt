@@ -37,9 +37,9 @@ impl<K: Keeper, H: Hash32> Core<K, H> {
             → AreCollected H.digest_of (told_replay H.digest_of t self.old.journal) who.worker pin dead
             → K.reads self.new.keeper ≤ K.reads self.old.keeper + (4 * length dead + 1)) }
     {
-        if make_room(&mut self.journal, who).is_err() {
+        let Ok(()) = make_room(&mut self.journal, who) else {
             return Err(UnpinFault::Memory);
-        }
+        };
         let answer =
             end_pin::<K, H>(self.alloc, &mut self.keeper, &mut self.world, who, pin);
         let reply = unpin_reply(&answer);
