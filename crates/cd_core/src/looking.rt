@@ -47,8 +47,14 @@ impl<K: Keeper, H: Hash32> Core<K, H> {
             return Err(LookFault::Memory);
         };
         let asked = hashes.len() as u32;
-        let answer =
-            look_under::<K, H>(self.alloc, &mut self.keeper, &self.world, who, pin, hashes);
+        let answer = look_under::<K, H>(
+            self.alloc,
+            &mut self.keeper,
+            &self.world,
+            who,
+            pin,
+            hashes,
+        );
         let reply = look_reply(&answer);
         note(&mut self.journal, who, Event::Look { pin, asked }, reply);
         answer
