@@ -8,5 +8,7 @@ pub mod Ended
 pub mod Journaling
 pub mod Keepings
 pub mod Leading
+pub mod Totals
 pub mod Unpinned
+pub mod Walking
 pub mod Writable

@@ -1,3 +1,4 @@
 pub mod Cores
 pub mod Effects
 pub mod Steps
+pub mod Totalling
