@@ -1,7 +1,11 @@
 -- The records of a sound world's contents, added up: its held cells and their counts.
-use Rattle.std.proofs.Common.{◌≡◌, ℕ, ◌+◌, ◌-◌, ◌^◌, ◌≤◌, Bool, true, false, cond, List, [], ◌∷◌, map, length, Option, Some, None, refl, sym, ap, ap₂, ◌∙◌, subst, arith}
+use Rattle.std.proofs.Common.{◌≡◌, ℕ, ◌+◌, ◌-◌, ◌^◌, ◌<◌, ◌≤◌, zero-add, subst₂, Bool, true, false, cond, List, [], ◌∷◌, map, length, Option, Some, None, refl, sym, ap, ap₂, ◌∙◌, subst, arith}
 use Rattle.std.specs.List.{sum_by}
-use Rattle.std.specs.Prelude.{min, ◌&&◌, Result, Ok, Err, T}
+use Rattle.std.specs.Prelude.{min, ◌&&◌, IfSome, Result, Ok, Err}
+use lib.Dec.{T}
+use Rattle.std.proofs.lemmas.List.Sums.{sum_by-cons}
+use Rattle.cd_core.proofs.Unpinned.{of-some}
+use Rattle.cd_core.proofs.Walking.{next-some, next-none, above-all}
 use Rattle.std.specs.Option.{option_map, option_and_then}
 use Rattle.std.specs.Ordering.{nat_cmp, eq_by_cmp, is_lt}
 use Rattle.std.specs.Cmp.Lexicographic.{slice_cmp, nat_list_cmp_total}
@@ -12,7 +16,7 @@ use Rattle.std.proofs.lemmas.Option.{none-some, same_Some}
 use Rattle.std.proofs.lemmas.List.{length-map}
 use Rattle.cd_base.specs.declared.hash.Hash256.{Hash256}
 use Rattle.cd_cell.specs.Tree.{Tree, face_of}
-use Rattle.cd_keeper.specs.Contents.{Contents}
+use Rattle.cd_keeper.specs.Contents.{Table, Contents, next_entry}
 use Rattle.cd_record.specs.declared.record.Record.{Record}
 use Rattle.cd_record.specs.declared.record_fault.RecordFault.{RecordFault}
 use Rattle.cd_record.specs.RecordReading.{record_in}
@@ -99,3 +103,55 @@ module _ (H : List ℕ → Hash256) (t : ToldWorld) (contents : Contents) (so : 
       sym (sum_by-map (λ (e : List ℕ × ℕ). e.1) (λ (e : List ℕ × List ℕ). (e.0, count_in e.1)) (entries contents.cells))
       ∙ ap (sum_by (λ (e : List ℕ × ℕ). e.1)) same-counts
       ∙ sum_by-map (λ (e : List ℕ × ℕ). e.1) (λ (e : List ℕ × Tree). (e.0, counted e)) (entries (held H t))
+
+-- ---- adding up
+
+sum-cons : (e : List ℕ × List ℕ) (es : List (List ℕ × List ℕ)) → sum_in (e ∷ es) ≡ count_in e.1 + sum_in es
+sum-cons e es = sum_by-cons (λ (x : List ℕ × List ℕ). count_in x.1) e es
+
+pub so-far-none : (es : List (List ℕ × List ℕ)) → AreSoFar es None 0 0
+so-far-none es = record {
+  cells_are = ap (λ (xs : List (List ℕ × List ℕ)). at_most_last (0 + length xs)) (above-all es) ∙ ap at_most_last (zero-add (length es));
+  counts_are = ap (λ (xs : List (List ℕ × List ℕ)). at_most_last (0 + sum_in xs)) (above-all es) ∙ ap at_most_last (zero-add (sum_in es));
+}
+
+saturated : (c n m s : ℕ) → at_most_last (c + (n + m)) ≡ s → at_most_last (at_most_last (c + n) + m) ≡ s
+saturated c n m s e = omega (arith, e)
+
+so-far-more : (m : Table) (after : Option (List ℕ)) (e : List ℕ × List ℕ) (cells counts : ℕ) → next_entry m after ≡ Some e → AreSoFar (entries m) after cells counts
+    → AreSoFar (entries m) (Some e.0) (at_most_last (cells + 1)) (at_most_last (counts + count_in e.1))
+so-far-more m after e cells counts at so =
+    let rest = next-some m after e at in
+    let left = above (Some e.0) (entries m) in
+    record {
+      cells_are = saturated cells 1 (length left) _ (ap (λ n. at_most_last (cells + n)) (omega arith) ∙ ap (λ (xs : List (List ℕ × List ℕ)). at_most_last (cells + length xs)) (sym rest) ∙ so.cells_are);
+      counts_are = saturated counts (count_in e.1) (sum_in left) _ (ap (λ n. at_most_last (counts + n)) (sym (sum-cons e left)) ∙ ap (λ (xs : List (List ℕ × List ℕ)). at_most_last (counts + sum_in xs)) (sym rest) ∙ so.counts_are);
+    }
+
+so-far-all : (m : Table) (after : Option (List ℕ)) (cells counts : ℕ) → next_entry m after ≡ None → cells < 2 ^ 64 → counts < 2 ^ 64 → AreSoFar (entries m) after cells counts → AreSums (entries m) cells counts
+so-far-all m after cells counts at few_cells few_counts so =
+    let none = next-none m after at in
+    let a = ap (λ (xs : List (List ℕ × List ℕ)). at_most_last (cells + length xs)) (sym none) ∙ so.cells_are in
+    let b = ap (λ (xs : List (List ℕ × List ℕ)). at_most_last (counts + sum_in xs)) (sym none) ∙ so.counts_are in
+    record { cells_are = omega (arith, a); counts_are = nothing-more counts _ few_counts b }
+  where
+    nothing-more : (n s : ℕ) → n < 2 ^ 64 → at_most_last (n + 0) ≡ s → n ≡ s
+    nothing-more n s few e = omega (arith, e)
+
+-- where the keeper tells
+pub told-more : (first now : Option Contents) (after : Option (List ℕ)) (hash bytes : List ℕ) (cells counts cells' counts' : ℕ) → now ≡ first
+    → IfSome first (λ c. AreSoFar (entries c.cells) after cells counts) → IfSome now (λ c. Some (hash, bytes) ≡ next_entry c.cells after)
+    → cells' ≡ at_most_last (cells + 1) → counts' ≡ at_most_last (counts + count_in bytes)
+    → IfSome first (λ c. AreSoFar (entries c.cells) (Some hash) cells' counts')
+told-more None now after hash bytes cells counts cells' counts' same so next cells_are counts_are = tt
+told-more (Some c) now after hash bytes cells counts cells' counts' same so next cells_are counts_are =
+    let at : Some (hash, bytes) ≡ next_entry c.cells after = of-some now c (λ x. Some (hash, bytes) ≡ next_entry x.cells after) same next in
+    subst₂ (λ a b. AreSoFar (entries c.cells) (Some hash) a b) (sym cells_are) (sym counts_are) (so-far-more c.cells after (hash, bytes) cells counts (sym at) so)
+
+pub told-all : (first now : Option Contents) (after : Option (List ℕ)) (cells counts : ℕ) → now ≡ first → cells < 2 ^ 64 → counts < 2 ^ 64
+    → IfSome first (λ c. AreSoFar (entries c.cells) after cells counts) → IfSome now (λ c. None ≡ next_entry c.cells after)
+    → IfSome first (λ c. AreSums (entries c.cells) cells counts)
+told-all None now after cells counts same few_cells few_counts so next = tt
+told-all (Some c) now after cells counts same few_cells few_counts so next =
+    let at : None ≡ next_entry c.cells after = of-some now c (λ x. None ≡ next_entry x.cells after) same next in
+    so-far-all c.cells after cells counts (sym at) few_cells few_counts so
