@@ -12,6 +12,7 @@ ghost use Rattle.cd_core.specs.Steps.{Did};
 
 use crate::body::{Core, make_room, note};
 use crate::replying::pin_reply;
+use cd_base::Memory;
 use cd_block::{BlockId, Descr};
 use cd_cell::{ChildInfo, Hash32, Mask};
 use cd_event::{Event, PinFault, Pinned, Who};
@@ -74,9 +75,11 @@ fn begin_pin<K: Keeper, H: Hash32>(
         worker: who.worker,
         block: *id,
     };
-    if world.pins.push(row).is_err() {
-        return Err(PinFault::Memory);
+    match world.pins.push(row) {
+        Ok(()) => {
+            world.next = pin + 1;
+            Ok(Pinned { pin, root })
+        }
+        Err(Memory) => Err(PinFault::Memory),
     }
-    world.next = pin + 1;
-    Ok(Pinned { pin, root })
 }

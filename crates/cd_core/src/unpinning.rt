@@ -70,14 +70,18 @@ fn end_pin<K: Keeper, H: Hash32>(
         return Err(UnpinFault::NoPin);
     };
     let row = *row;
-    if let Some(place) = collected_place(world, &row) {
-        if let Err(fault) = drop_block::<K, H>(alloc, keeper, world, &row, place) {
-            return Err(fault);
+    match collected_place(world, &row) {
+        None => {
+            world.pins.drop_pin(row.worker, row.pin);
+            Ok(false)
         }
-        world.blocks.remove(place);
-        world.pins.drop_pin(row.worker, row.pin);
-        return Ok(true);
+        Some(place) => match drop_block::<K, H>(alloc, keeper, world, &row, place) {
+            Ok(()) => {
+                world.blocks.remove(place);
+                world.pins.drop_pin(row.worker, row.pin);
+                Ok(true)
+            }
+            Err(fault) => Err(fault),
+        },
     }
-    world.pins.drop_pin(row.worker, row.pin);
-    Ok(false)
 }
