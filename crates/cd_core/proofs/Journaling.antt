@@ -3,7 +3,7 @@ use Rattle.std.proofs.Common.{◌≡◌, ℕ, ◌+◌, ◌-◌, ◌^◌, ◌≤�
 use Rattle.std.proofs.lemmas.Bool.{true≢false}
 use Rattle.std.proofs.lemmas.List.Sums.{sum_by-append}
 use Rattle.std.specs.Prelude.{min, IfSome}
-use Rattle.std.specs.Option.{option_map}
+use Rattle.std.specs.Option.{option_map, option_to_list}
 use Rattle.std.specs.List.{count_by}
 use Rattle.cd_base.specs.declared.hash.Hash256.{Hash256}
 use Rattle.cd_base.specs.Counts.{one_more, Rose}
@@ -19,9 +19,9 @@ use Rattle.cd_event.specs.Replies.{entry_of, entries_of}
 use Rattle.cd_event.specs.Turning.{is_keeper, RisesOnly}
 use Rattle.cd_world.specs.declared.world.World.{World}
 use Rattle.cd_world.specs.declared.world.PinRow.{PinRow}
-use Rattle.cd_world.specs.Standing.{kept_at}
-use Rattle.cd_world.specs.Changes.{without_pin, without_pins}
-use Rattle.cd_world.specs.Machine.{is_refused, makes_batch, moved, after, replay, unless_expired}
+use Rattle.cd_world.specs.Standing.{kept_at, pin_at}
+use Rattle.cd_world.specs.Changes.{with_block, stored, without_pin, without_pins}
+use Rattle.cd_world.specs.Machine.{is_refused, makes_batch, merge_rows, blocks_of, moved, after, replay, unless_expired}
 use Rattle.cd_world.specs.Following.{Follows, AllFollow}
 use Rattle.cd_world.specs.Told.{ToldWorld, shown, told_after, told_replay, FollowsTold, AllFollowTold}
 use Rattle.cd_world.specs.Image.{IsContentsOf}
@@ -48,8 +48,9 @@ module _ {X : Type 0} where
   next-moved w worker (Zero id tops p) = omega arith
   next-moved w worker (Pin id) = omega arith
   next-moved w worker (Look pin asked) = omega arith
-  next-moved w worker (Merge pin other id tops p) = omega (arith, next-without_pins _ _)
-  next-moved w worker (Unpin pin) = omega (arith, next-without_pins _ _)
+  next-moved w worker (Merge pin other id tops p) =
+      let rows = merge_rows w worker pin other in omega (arith, next-without_pins (with_block w (stored id (blocks_of rows) tops p)) rows)
+  next-moved w worker (Unpin pin) = omega (arith, next-without_pins w (option_to_list (pin_at w worker pin)))
   next-moved w worker (Expire id) = omega (arith, next-expired w (kept_at w id))
 
   next-after : (w : World) (e : Entry X) → (let v = after w e in v.next) ≤ w.next + 1
