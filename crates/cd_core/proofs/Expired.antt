@@ -1,10 +1,10 @@
 -- Blocks expire: what becomes of the keeper's contents, and the step of the machine.
-use Rattle.std.proofs.Common.{◌≡◌, ℕ, ◌+◌, ◌<◌, ◌≤◌, zero, suc, Bool, true, false, cond, not, List, [], ◌∷◌, ◌++◌, map, length, Option, Some, None, Contains, refl, sym, ap, ap₂, ◌∙◌, subst, inl, inr, arith}
+use Rattle.std.proofs.Common.{◌≡◌, ℕ, ◌+◌, ◌<◌, ◌≤◌, zero, suc, Bool, true, false, cond, not, List, [], ◌∷◌, ◌++◌, map, length, Option, Some, None, Contains, refl, sym, ap, ap₂, ◌∙◌, subst, subst₂, arith}
 use Rattle.std.specs.Prelude.{◌&&◌, nat_lt, Result, Ok, Err}
 use Rattle.std.specs.Option.{option_map, option_or}
 use Rattle.std.specs.List.{filter, list_any, IsDistinct}
 use Rattle.std.specs.Map.{keys_of}
-use Rattle.std.proofs.lemmas.Bool.{true≢false}
+use Rattle.std.proofs.lemmas.Bool.{true≢false, ltb-false}
 use Rattle.std.proofs.lemmas.List.{length-map}
 use Rattle.cd_base.specs.declared.hash.Hash256.{Hash256}
 use Rattle.cd_base.specs.Counts.{Rose}
@@ -47,7 +47,7 @@ use Rattle.cd_core.specs.Steps.{Did, Batches}
 use Rattle.cd_core.specs.Passing.{is_left, told_passed, IsUnexpirable}
 use Rattle.cd_core.proofs.Apart.{keys-apart-in}
 use Rattle.cd_core.proofs.DescrTables.{key, descs-lead}
-use Rattle.cd_core.proofs.Doings.{memory-did, refused-did, failed-did, quiet-did, batch-did}
+use Rattle.cd_core.proofs.Doings.{memory-did, refused-did, failed-did, quiet-did, batch-did, contents-blocks}
 use Rattle.cd_core.proofs.Ended.{keeps-itself}
 use Rattle.cd_core.proofs.Keepings.{applied-later}
 use Rattle.cd_core.proofs.Leading.{bytes-changed}
@@ -199,10 +199,22 @@ module _ {K : Type 0} (held : K → Option Contents) (H : List ℕ → Hash256) 
 -- where none is passed nothing changes
 none-passed : (w : World) (m : Descr) (xs : List Descr) → length (filter (is_expired m) xs) ≡ 0 → left_over w m xs ≡ xs
 none-passed w m [] none = refl
-none-passed w m (x ∷ xs) none = by (is_expired m x) none (none-passed w m xs)
+none-passed w m (x ∷ xs) none = by (is_expired m x) refl none (none-passed w m xs)
   where
-    by : (b : Bool) → length (cond b (x ∷ filter (is_expired m) xs) (filter (is_expired m) xs)) ≡ 0 → (length (filter (is_expired m) xs) ≡ 0 → left_over w m xs ≡ xs) → ?
-    by = ?
+    by : (b : Bool) → is_expired m x ≡ b → length (cond b (x ∷ filter (is_expired m) xs) (filter (is_expired m) xs)) ≡ 0 → (length (filter (is_expired m) xs) ≡ 0 → left_over w m xs ≡ xs) → left_over w m (x ∷ xs) ≡ x ∷ xs
+    by true e some rest = absurd (omega (arith, some))
+    by false e some rest =
+        let kept : filter (λ d. not (goes_at_once w m d)) (x ∷ xs) ≡ x ∷ filter (λ d. not (goes_at_once w m d)) xs =
+        ap (λ b. cond (not (b && not (is_pinned w.pins x.id))) (x ∷ filter (λ d. not (goes_at_once w m d)) xs) (filter (λ d. not (goes_at_once w m d)) xs)) e in
+        let still : marked m x ≡ x = ap (λ b. cond b (record x { leaving = true }) x) e in
+        ap (map (marked m)) kept ∙ ap₂ (λ (y : Descr) (ys : List Descr). y ∷ ys) still (rest some)
+
+positive : (n : ℕ) → (n ≡ 0 → ⊥) → nat_lt 0 n ≡ true
+positive n some = by (nat_lt 0 n) refl
+  where
+    by : (b : Bool) → nat_lt 0 n ≡ b → nat_lt 0 n ≡ true
+    by true e = e
+    by false e = absurd (some (let least = ltb-false 0 n e in omega (arith, least)))
 
 module _ {K : Type 0} (X : Type 0) (held : K → Option Contents) (H : List ℕ → Hash256) (trail : K → Option (List Contents)) (batches faults : K → ℕ)
     (limit : ℕ) (low : limit ≤ GREATEST_COUNT) (w : World) (k : K) (who : Who) (id : BlockId) (ready : IsWritable w) where
@@ -216,3 +228,39 @@ module _ {K : Type 0} (X : Type 0) (held : K → Option Contents) (H : List ℕ 
   unexpired-did (expire.TopMissing top) why = refused-did held H trail batches faults limit w k k who (Expire id) (refusal.TopMissing top) ready (sym why) refl (keeps-itself held trail batches k) refl
   unexpired-did expire.Keeper why = absurd why
   unexpired-did expire.Memory why = memory-did held H trail batches faults limit w k k who (Expire id) ready (keeps-itself held trail batches k) refl
+
+  module _ (m : Descr) (at : kept_at w id ≡ Some m) (free : unexpirable w (kept_at w id) ≡ None) (count : ℕ) (counted : count ≡ length (expired w m)) where
+    told-reply : reply.Expired count ≡ reply.Expired (expired_count w (kept_at w id))
+    told-reply = ap reply.Expired (counted ∙ sym (ap (expired_count w) at))
+
+    went-by : (v : World) → v ≡ w → moved {X = X} v who.worker (Expire id) ≡ without_expired v m
+    went-by v same = ap (unless_expired v) (subst (λ x. kept_at x id ≡ Some m) (sym same) at)
+
+    -- no block is passed
+    pub quiet-expired : count ≡ 0 → DidSo (Ok 0) w k
+    quiet-expired none =
+        let none_left : without_expired w m ≡ w = ap (λ (bs : List Descr). record w { blocks = bs }) (none-passed w m w.blocks (sym counted ∙ none)) in
+        let went : w ≡ moved {X = X} w who.worker (Expire id) = sym (went-by w refl ∙ none_left) in
+        quiet-did held H trail batches faults limit low w w k k who (Expire id) (reply.Expired 0) ready tt free (ap reply.Expired (sym none) ∙ told-reply) refl went refl (keeps-itself held trail batches k) refl
+        (λ t same. (refl, tt, ap (λ (v : World). let s = shown (record { world = v; state = t.state }) in s.blocks) (subst (λ v. v ≡ moved {X = X} v who.worker (Expire id)) (sym same) went)))
+
+    module _ (some : count ≡ 0 → ⊥) (k' : K) where
+      -- passed blocks went or were marked, in one batch
+      pub passed-did : (w' : World) → w' ≡ without_expired w m → Batches held H trail batches w (told_passed m) k k' → faults k' ≡ faults k → DidSo (Ok count) w' k'
+      passed-did w' went made steady =
+          batch-did held H trail batches faults limit low w w' k k' who (Expire id) (reply.Expired count) ready tt free told-reply refl (went ∙ sym (went-by w refl)) (positive count some) made.change made.applied steady
+          (λ t contents same said so.
+          let leads = made.leads t contents same said so in
+          (refl, tt,
+          contents-blocks H (shown (told_passed m t)) (shown (record { world = moved {X = X} t.world who.worker (Expire id); state = t.state })) _
+          (ap (λ (v : World). let s = shown (record { world = v; state = t.state }) in s.blocks) (sym (went-by t.world same))) leads.0,
+          leads.1))
+
+      -- the keeper failed
+      pub passing-failed : KeepsHeld held trail batches k k' → faults k ≤ faults k' → Rose (faults k) (faults k') → DidSo (Err expire.Keeper) w k'
+      passing-failed keeps later rose =
+          failed-did held H trail batches faults limit w k k' who (Expire id) ready free (ap (λ o. nat_lt 0 (expired_count w o)) at ∙ ap (nat_lt 0) (sym counted) ∙ positive count some) keeps later rose
+
+  -- memory is wanting
+  pub passing-wanting : (k' : K) → KeepsHeld held trail batches k k' → faults k' ≡ faults k → DidSo (Err expire.Memory) w k'
+  passing-wanting k' keeps same = memory-did held H trail batches faults limit w k k' who (Expire id) ready keeps same

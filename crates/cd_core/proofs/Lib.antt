@@ -6,6 +6,7 @@ pub mod DescrTables
 pub mod Doings
 pub mod Dropped
 pub mod Ended
+pub mod Expired
 pub mod Journaling
 pub mod Keepings
 pub mod Leading

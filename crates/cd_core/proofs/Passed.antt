@@ -30,7 +30,7 @@ module _ (w : World) (m : Descr) where
   abbrev pub leaving : List Descr → List Descr
   leaving xs = map (marked m) (filter (is_left w m) xs)
 
-  key-marked : (d : Descr) → key (marked m d) ≡ key d
+  pub key-marked : (d : Descr) → key (marked m d) ≡ key d
   key-marked d = ap key_of (id-marked m d)
 
   -- a block that is passed and has a pin is marked
