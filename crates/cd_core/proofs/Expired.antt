@@ -2,15 +2,16 @@
 use Rattle.std.proofs.Common.{◌≡◌, ℕ, ◌+◌, ◌<◌, ◌≤◌, zero, suc, Bool, true, false, cond, not, List, [], ◌∷◌, ◌++◌, map, length, Option, Some, None, Contains, refl, sym, ap, ap₂, ◌∙◌, subst, subst₂, arith}
 use Rattle.std.specs.Prelude.{◌&&◌, nat_lt, Result, Ok, Err}
 use Rattle.std.specs.Option.{option_map, option_or}
-use Rattle.std.specs.List.{filter, list_any, IsDistinct}
+use Rattle.std.specs.List.{filter, list_any, AllByRecursion, IsDistinct}
 use Rattle.std.specs.Map.{keys_of}
 use Rattle.std.proofs.lemmas.Bool.{true≢false, ltb-false}
-use Rattle.std.proofs.lemmas.List.{length-map}
+use Rattle.std.proofs.lemmas.List.Elements.{All-contains}
 use Rattle.cd_base.specs.declared.hash.Hash256.{Hash256}
 use Rattle.cd_base.specs.Counts.{Rose}
 use Rattle.cd_block.specs.declared.block.BlockId.{BlockId}
 use Rattle.cd_block.specs.declared.description.Descr.{Descr}
 use Rattle.cd_block.specs.Block.{key_of}
+use Rattle.cd_block.specs.Description.{IsDescrFit}
 use Rattle.cd_cell.specs.Tree.{Tree}
 use Rattle.cd_cell.proofs.Subtrees.{Contains-first, Contains-later, Contains-map}
 use Rattle.cd_keeper.specs.Contents.{Contents, Change, changed}
@@ -85,6 +86,22 @@ once-in w m ready gone left gone_are left_are =
     ids : (ds : List Descr) → map key_of (map (λ (d : Descr). d.id) ds) ≡ map key ds
     ids [] = refl
     ids (d ∷ ds) = ap (λ (ks : List (List ℕ)). key d ∷ ks) (ids ds)
+
+fit-marked : (m d : Descr) → IsDescrFit d → IsDescrFit (marked m d)
+fit-marked m d fit = by (is_expired m d)
+  where
+    by : (b : Bool) → IsDescrFit (cond b (record d { leaving = true }) d)
+    by true = record { parents = fit.parents; depth = fit.depth; tops = fit.tops; tops_on_master = fit.tops_on_master }
+    by false = fit
+
+fit-all : (m : Descr) (ds : List Descr) → ((d : Descr) → Contains ds d → IsDescrFit d) → AllByRecursion IsDescrFit (map (marked m) ds)
+fit-all m [] fit = tt
+fit-all m (d ∷ ds) fit = (fit-marked m d (fit d (Contains-first d ds)), fit-all m ds (λ x h. fit x (Contains-later d ds x h)))
+
+pub fit-left : (w : World) (m : Descr) → IsWritable w → (left : List Descr) → left ≡ map (marked m) (filter (is_left w m) w.blocks) → AllByRecursion IsDescrFit left
+fit-left w m ready left left_are =
+    subst (AllByRecursion IsDescrFit) (sym left_are)
+    (fit-all m (filter (is_left w m) w.blocks) (λ d h. let there = Contains-filter (is_left w m) w.blocks d h in All-contains IsDescrFit w.blocks d ready.fit there.0))
 
 -- ---- what the batch leads to
 
