@@ -54,7 +54,7 @@ use Rattle.cd_core.proofs.Keepings.{applied-later}
 use Rattle.cd_core.proofs.Leading.{bytes-changed}
 use Rattle.cd_core.proofs.Passed.{look-passed, keys-once, key-marked, leaving, left_over}
 use Rattle.cd_core.proofs.Stores.{sound-block}
-use Rattle.cd_core.proofs.Unpinned.{states-are}
+use Rattle.cd_core.proofs.Brought.{states-shown}
 
 distinct-later : (xs ys : List (List ℕ)) → IsDistinct same_key (xs ++ ys) → IsDistinct same_key ys
 unfolding IsDistinct
@@ -144,12 +144,12 @@ module _ (H : List ℕ → Hash256) (m : Descr) where
     together =
         let ds = t.world.blocks in
         let stay = filter (λ d. not (goes d)) ds in
-        let few : states (map (block_of t) (map (marked m) stay)) ≡ map root stay = states-are t (map (marked m) stay) ∙ roots-marked stay in
-        let more : states gone ≡ map root (filter (λ d. not (not (goes d))) ds) = states-are t (filter goes ds) ∙ ap (map root) (sym (filter-same (λ d. not (not (goes d))) goes (λ d. not-not (goes d)) ds)) in
+        let few : states (map (block_of t) (map (marked m) stay)) ≡ map root stay = states-shown t (map (marked m) stay) ∙ roots-marked stay in
+        let more : states gone ≡ map root (filter (λ d. not (not (goes d))) ds) = states-shown t (filter goes ds) ∙ ap (map root) (sym (filter-same (λ d. not (not (goes d))) goes (λ d. not-not (goes d)) ds)) in
         let at = together-filter (cell_graph H) root (λ d. not (goes d)) ds in
         let one = subst (λ ts. nodes.AreTogether (cell_graph H) ts (map root (filter (λ d. not (not (goes d))) ds)) (map root ds)) (sym few) at in
         let two = subst (λ ts. nodes.AreTogether (cell_graph H) (states (map (block_of t) (map (marked m) stay))) ts (map root ds)) (sym more) one in
-        subst (λ ts. nodes.AreTogether (cell_graph H) (states (map (block_of t) (map (marked m) stay))) (states gone) ts) (sym (states-are t ds)) two
+        subst (λ ts. nodes.AreTogether (cell_graph H) (states (map (block_of t) (map (marked m) stay))) (states gone) ts) (sym (states-shown t ds)) two
 
     roots-are : (ds : List Descr) → ((d : Descr) → Contains ds d → IsSoundBlock H t.state d) → map (rep_bytes H) (states (map (block_of t) ds)) ≡ map hash_bytes (map (λ d. d.root) ds)
     roots-are [] sound = refl

@@ -1,4 +1,4 @@
-use Rattle.std.proofs.Common.{◌≡◌, ℕ, ◌+◌, List, map, not, sym, ap, ap₂, ◌∙◌}
+use Rattle.std.proofs.Common.{◌≡◌, ℕ, ◌+◌, List, map, not, sym, ap, ◌∙◌, arith}
 use Rattle.std.specs.Prelude.{◌&&◌}
 use Rattle.std.specs.List.{filter}
 use Rattle.cd_block.specs.declared.description.Descr.{Descr}
@@ -21,7 +21,7 @@ returns-then-count-eq0 g c =
     let found = c.in-Ok.ensures.found in
     record {
       did = λ limit low. quiet-expired g.row.H.Denot k.held g.H.Hash32.digest_of k.trail k.batches k.faults limit low c.args.world.now c.args.keeper.now c.args.who c.args.id.now c.requires.kept
-          c.in-Ok.master found.0 found.1 (c.len.result + c.len-2.result) (ap₂ (λ a b. a + b) c.len.ensures c.len-2.ensures ∙ c.in-Ok-list_passed.ensures.counted) c.if-count-eq0.true;
+          c.in-Ok.master found.0 found.1 (c.len.result + c.len-2.result) (omega (arith, c.len.ensures, c.len-2.ensures, c.in-Ok-list_passed.passed.roots.ok.0, c.in-Ok-list_passed.passed.leaving.ok.0, c.in-Ok-list_passed.ensures.counted)) c.if-count-eq0.true;
     }
 
 pub returns-in-Ok-drop_passed : goal.returns-in-Ok-drop_passed
@@ -33,7 +33,7 @@ returns-in-Ok-drop_passed g c =
     let cause = c.in-Ok-drop_passed.ensures.cause in
     record {
       did = λ limit low. passed-did g.row.H.Denot k.held g.H.Hash32.digest_of k.trail k.batches k.faults limit low w c.args.keeper.now c.args.who c.args.id.now c.requires.kept
-          m found.0 found.1 (c.len.result + c.len-2.result) (ap₂ (λ a b. a + b) c.len.ensures c.len-2.ensures ∙ c.in-Ok-list_passed.ensures.counted) c.if-count-eq0.false c.drop_passed.new.keeper
+          m found.0 found.1 (c.len.result + c.len-2.result) (omega (arith, c.len.ensures, c.len-2.ensures, c.in-Ok-list_passed.passed.roots.ok.0, c.in-Ok-list_passed.passed.leaving.ok.0, c.in-Ok-list_passed.ensures.counted)) c.if-count-eq0.false c.drop_passed.new.keeper
           (record w { blocks = c.expire.new.self })
           (ap (λ (bs : List Descr). record w { blocks = bs }) (c.expire.ensures
           ∙ ap (λ (ps : List PinRow). map (marked m) (filter (λ (d : Descr). not (is_expired m d && not (is_pinned ps d.id))) w.blocks)) c.as_slice.ensures))
@@ -47,7 +47,7 @@ returns-in-Err-Failed g c =
     let cause = c.in-Err-Failed.ensures.cause in
     record {
       did = λ limit low. passing-failed g.row.H.Denot k.held g.H.Hash32.digest_of k.trail k.batches k.faults limit low c.args.world.now c.args.keeper.now c.args.who c.args.id.now c.requires.kept
-          c.in-Ok.master found.0 found.1 (c.len.result + c.len-2.result) (ap₂ (λ a b. a + b) c.len.ensures c.len-2.ensures ∙ c.in-Ok-list_passed.ensures.counted) c.if-count-eq0.false c.drop_passed.new.keeper
+          c.in-Ok.master found.0 found.1 (c.len.result + c.len-2.result) (omega (arith, c.len.ensures, c.len-2.ensures, c.in-Ok-list_passed.passed.roots.ok.0, c.in-Ok-list_passed.passed.leaving.ok.0, c.in-Ok-list_passed.ensures.counted)) c.if-count-eq0.false c.drop_passed.new.keeper
           c.in-Err-Failed.ensures.undone cause.later (rw c.in-Err-Failed.field-0-is at c.in-Err-Failed.ensures.cause.caused);
     }
 
