@@ -85,19 +85,21 @@ module _ {K : Type 0} (X : Type 0) (held : K → Option Contents) (H : List ℕ 
     gone-did blocks pins blocks_are pins_are made steady =
         let both = goes-at w row place d ready here goes in
         let left : record { blocks = blocks; pins = pins; next = w.next } ≡ without_pin w row =
-            ap (λ (bs : List Descr). record { blocks = bs; pins = pins; next = w.next }) (blocks_are ∙ both.1)
-            ∙ ap (λ ps. let v = without_pin w row in record { blocks = v.blocks; pins = ps; next = w.next }) pins_are in
+        ap (λ (bs : List Descr). record { blocks = bs; pins = pins; next = w.next }) (blocks_are ∙ both.1)
+        ∙ ap (λ ps. let v = without_pin w row in record { blocks = v.blocks; pins = ps; next = w.next }) pins_are in
         batch-did held H trail batches faults limit low w (record { blocks = blocks; pins = pins; next = w.next }) k k' who (Unpin pin) (reply.Unpinned true)
         ready tt (ap no_pin at) (ap reply.Unpinned (sym pin-collected)) refl
         (left ∙ sym (unpinned X w who.worker pin row at))
         refl made.change made.applied steady
         (λ t contents same said so.
         let at_t = subst (λ v. pin_at v who.worker pin ≡ Some row) (sym same) at in
-        let leads = made.leads t contents same said so in
-        (refl, tt,
-         contents-blocks H (shown (told_without row t)) (shown (record { world = moved {X = X} t.world who.worker (Unpin pin); state = t.state })) _
-         (ap (λ (v : World). let s = shown (record { world = v; state = t.state }) in s.blocks) (sym (unpinned X t.world who.worker pin row at_t))) leads.0,
-         leads.1))
+        let leads = made.leads t contents same said so in (
+          refl,
+          tt,
+          contents-blocks H (shown (told_without row t)) (shown (record { world = moved {X = X} t.world who.worker (Unpin pin); state = t.state })) _
+              (ap (λ (v : World). let s = shown (record { world = v; state = t.state }) in s.blocks) (sym (unpinned X t.world who.worker pin row at_t))) leads.0,
+          leads.1,
+        ))
 
     -- it didn't
     pub ungone-did : (A : Type 0) (fault : UnpinFault) → KeepsHeld held trail batches k k' → IsOutsideFault {A = A} (Err fault) → RisesOnly (is_keeper_fault {A = A} (Err fault)) (faults k) (faults k')

@@ -36,9 +36,9 @@ impl<K: Keeper, H: Hash32> Core<K, H> {
         ensures cause { RisesOnly (is_keeper (expire_reply result))
             (K.faults self.old.keeper) (K.faults self.new.keeper) }
     {
-        if make_room(&mut self.journal, who).is_err() {
+        let Ok(()) = make_room(&mut self.journal, who) else {
             return Err(ExpireFault::Memory);
-        }
+        };
         let answer =
             expire_by::<K, H>(self.alloc, &mut self.keeper, &mut self.world, who, &id);
         let reply = expire_reply(&answer);

@@ -43,12 +43,18 @@ impl<K: Keeper, H: Hash32> Core<K, H> {
         ensures seen { IfOk result (λ found.
             AreSeen K.held H.digest_of self.old.start self.old.journal hashes.now found.items) }
     {
-        if make_room(&mut self.journal, who).is_err() {
+        let Ok(()) = make_room(&mut self.journal, who) else {
             return Err(LookFault::Memory);
-        }
+        };
         let asked = hashes.len() as u32;
-        let answer =
-            look_under::<K, H>(self.alloc, &mut self.keeper, &self.world, who, pin, hashes);
+        let answer = look_under::<K, H>(
+            self.alloc,
+            &mut self.keeper,
+            &self.world,
+            who,
+            pin,
+            hashes,
+        );
         let reply = look_reply(&answer);
         note(&mut self.journal, who, Event::Look { pin, asked }, reply);
         answer
@@ -73,9 +79,9 @@ fn look_under<K: Keeper, H: Hash32>(
     ensures seen { IfOk result (λ found. (t : ToldWorld) → Holds K.held H.digest_of t keeper.old
         → found.items ≡ map (seen H.digest_of t) hashes.now) }
 {
-    if pin_row(world, who.worker, pin).is_none() {
+    let Some(_row) = pin_row(world, who.worker, pin) else {
         return Err(LookFault::NoPin);
-    }
+    };
     match look_all(alloc, keeper, hashes) {
         Ok(found) => Ok(found),
         Err(KeepFault::Failed) => Err(LookFault::Keeper),

@@ -28,9 +28,9 @@ impl<K: Keeper, H: Hash32> Core<K, H> {
             (pin_reply result) self.new.journal }
         ensures root { IfOk result (IsPinOf K.held H.digest_of self.old.start self.old.journal id) }
     {
-        if make_room(&mut self.journal, who).is_err() {
+        let Ok(()) = make_room(&mut self.journal, who) else {
             return Err(PinFault::Memory);
-        }
+        };
         let answer = begin_pin::<K, H>(&mut self.world, who, &id);
         let reply = pin_reply(&answer);
         note(&mut self.journal, who, Event::Pin { id }, reply);

@@ -15,7 +15,7 @@ returns-then-block-clause-some c =
     let row = c.args.row.now in
     let b = c.index-blocks-place.result in
     let there : slice_get w.blocks c.loop-place.place ≡ Some b =
-        slice_get_read w.blocks (length c.as_slice-blocks.result.now) c.loop-place.place b (ap length c.as_slice-blocks.ensures) c.loop-place-test.true
-        (c.index-blocks-place.is ∙ ap (λ ys. get_or ys c.loop-place.place b) c.as_slice-blocks.ensures) in
+    slice_get_read w.blocks (length c.as_slice-blocks.result.now) c.loop-place.place b (ap length c.as_slice-blocks.ensures) c.loop-place-test.true
+    (c.index-blocks-place.is ∙ ap (λ ys. get_or ys c.loop-place.place b) c.as_slice-blocks.ensures) in
     let named : same_id b.id row.block ≡ true = sym c.is_same_id.ensures.test ∙ c.if-is_same_id.true in
     (b, there, goes-is w row (sym c.is_shared.ensures ∙ c.if-is_shared.false) b ∙ ap (λ x. x && b.leaving) named ∙ c.if-block.true)

@@ -1,22 +1,25 @@
-use Rattle.std.proofs.Common.{◌≡◌, Option, Some, None, false, refl, sym, ap, ◌∙◌, subst, length}
-use Rattle.std.specs.Prelude.{is_none}
-use Rattle.std.specs.Option.{option_copied}
-use Rattle.std.proofs.lemmas.Bool.{true≢false}
-use Rattle.cd_world.specs.declared.world.PinRow.{PinRow}
+use Rattle.std.proofs.Common.{sym, refl}
 use Rattle.cd_core.proofs.Begun.{looked-did, unlooked-did, forgot-did, faces-seen}
+use Rattle.std.proofs.Common.{length}
 use Rattle.cd_core.proofs.looking.look_under.Goals as goal
-
-some-from : {A : Type 0} (o : Option A) → is_none o ≡ false → (x : A) × (o ≡ Some x)
-some-from None e = absurd (true≢false e)
-some-from (Some x) e = (x, refl)
 
 pub returns-in-Ok-clause-seen : goal.returns-in-Ok-clause-seen
 returns-in-Ok-clause-seen g c = λ t h. faces-seen g.K.Keeper.held g.H.Hash32.digest_of t c.args.keeper.now c.args.hashes.now c.in-Ok.found.items h c.in-Ok.ensures.told
 
 pub returns-in-Ok-clause-did : goal.returns-in-Ok-clause-did
 returns-in-Ok-clause-did g c = λ limit low.
-    let a = c.pin_row.ensures in
-    let b = c.is_none.ensures in
-    let d = c.if-is_none.false in
-    let e = c.in-Ok.ensures.cause.steady in
-    ?
+    let k = g.K.Keeper in
+    looked-did g.row.H.Denot k.held g.H.Hash32.digest_of k.trail k.batches k.faults limit low c.args.world.now c.args.keeper.now c.args.who c.requires.kept c.look_all.new.keeper c.args.pin (length c.args.hashes.now) _
+    (sym c.in-Some.ensures) c.look_all.ensures.keeps c.in-Ok.ensures.cause.steady
+
+pub returns-in-Err-Failed-clause-did : goal.returns-in-Err-Failed-clause-did
+returns-in-Err-Failed-clause-did g c = λ limit low.
+    let k = g.K.Keeper in
+    unlooked-did g.row.H.Denot k.held g.H.Hash32.digest_of k.trail k.batches k.faults limit low c.args.world.now c.args.keeper.now c.args.who c.requires.kept c.look_all.new.keeper c.args.pin (length c.args.hashes.now) _
+    (sym c.in-Some.ensures) c.look_all.ensures.keeps c.look_all.ensures.cause.later (rw c.in-Err-Failed.field-0-is at c.in-Err-Failed.ensures.cause.caused)
+
+pub returns-in-Err-Memory-clause-did : goal.returns-in-Err-Memory-clause-did
+returns-in-Err-Memory-clause-did g c = λ limit low.
+    let k = g.K.Keeper in
+    forgot-did g.row.H.Denot k.held g.H.Hash32.digest_of k.trail k.batches k.faults limit low c.args.world.now c.args.keeper.now c.args.who c.requires.kept c.look_all.new.keeper c.args.pin (length c.args.hashes.now) _
+    (sym c.in-Some.ensures) c.look_all.ensures.keeps (rw c.in-Err-Memory.field-0-is at c.in-Err-Memory.ensures.cause.caused)
