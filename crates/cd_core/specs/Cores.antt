@@ -86,7 +86,8 @@ module _ {K : Type 0} (held : K → Option Contents) where
 
       module _ (batches faults : K → ℕ) where
         -- Each entry follows the world so far. The keeper's count of batches is that of the entries, and its count of
-        -- faults rose by at least the number of those that say that it failed, or stands at the last u64.
+        -- faults rose by at least the number of those that say that it failed, or stands at the last u64. A keeper that
+        -- told nothing at the start tells nothing.
         pub record IsCore (start : CoreStart K) (journal : List (Entry X)) (now : K) : Type 0 where
           pub follow : AllFollow H start.world.value journal
           pub writable : IsWritable (world_after start journal)

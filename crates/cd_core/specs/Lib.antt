@@ -1,4 +1,6 @@
 pub mod Cores
 pub mod Effects
+pub mod Passing
 pub mod Steps
+pub mod Storing
 pub mod Totalling

@@ -7,6 +7,7 @@ mod collecting;
 mod expiring;
 mod looking;
 mod merging;
+mod placing;
 mod pinning;
 mod replying;
 mod start;

@@ -1,7 +1,9 @@
-ghost use Rattle.std.specs.Prelude.{◌≡◌, map, IfOk};
+ghost use Rattle.std.specs.Prelude.{◌≡◌, ◌&&◌, not, map, filter, IfOk};
 ghost use Rattle.cd_world.specs.Standing as spec;
+ghost use Rattle.cd_world.specs.Changes.{marked};
 
-use crate::world::World;
+use crate::finding::is_pinned;
+use crate::world::{PinRow, World};
 use cd_base::Memory;
 use cd_block::{BlockId, Descr, expires};
 use std::alloc::Global;
@@ -24,4 +26,30 @@ pub fn expired(alloc: Global, world: &World, master: &Descr) -> Result<Vec<Block
         }
     }
     Ok(ids)
+}
+
+/// Drops the blocks that expire and have none of these pins.
+pub(crate) fn drop_unpinned(blocks: &mut Vec<Descr>, master: &Descr, pins: &[PinRow])
+    ensures { blocks.new.items ≡ filter (λ d. not (spec.is_expired master.now d
+        && not (spec.is_pinned pins.now d.id))) blocks.old.items }
+{
+    blocks.retain(|block| !(is_expired(master, block) && !is_pinned(pins, &block.id)));
+}
+
+/// Marks the blocks that expire as leaving.
+pub(crate) fn mark_expired(blocks: &mut [Descr], master: &Descr)
+    ensures { blocks.new ≡ map (marked master.now) blocks.old }
+{
+    for block in blocks.iter_mut() {
+        mark(block, master);
+    }
+}
+
+/// Marks a block that expires as leaving.
+fn mark(block: &mut Descr, master: &Descr)
+    ensures { block.new ≡ marked master.now block.old }
+{
+    if is_expired(master, block) {
+        block.leaving = true;
+    }
 }

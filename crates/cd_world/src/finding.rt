@@ -50,6 +50,13 @@ pub fn pin_row<'a>(world: &'a World, worker: u16, pin: u64) -> Option<&'a PinRow
         .find(|r| r.pin == pin && r.worker == worker)
 }
 
+/// Whether one of these pins is on the block.
+pub fn is_pinned(pins: &[PinRow], id: &BlockId) -> bool
+    ensures { result ≡ spec.is_pinned pins.now id.now }
+{
+    pins.iter().any(|r| is_same_id(&r.block, id))
+}
+
 /// How many live pins a worker has; no more than the last `u32`, which no world of the store comes near.
 pub fn pins_of(world: &World, worker: u16) -> u32
     ensures { result ≡ min (spec.pins_of world.now worker) (2 ^ 32 - 1) }

@@ -8,8 +8,8 @@ mod laws;
 mod limits;
 mod world;
 
-pub use expiring::expired;
-pub use finding::{find_block, find_kept, is_same_id, pin_row, pins_of};
+pub use expiring::{expired, is_expired};
+pub use finding::{find_block, find_kept, is_pinned, is_same_id, pin_row, pins_of};
 pub use laws::{
     a_fitting_value_still_fits, a_journal_goes_on, a_pinned_block_stays, a_pinned_tree_stays,
     a_sound_world_stays_sound, a_stored_value_is_the_prepared_tree, a_tidy_world_stays_tidy,

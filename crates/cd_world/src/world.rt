@@ -1,6 +1,8 @@
-ghost use Rattle.std.specs.Prelude.{◌≡◌, ◌≤◌, ◌<◌, ◌++◌, ◌∷◌, [], List, length, insert, remove, filter, not, OnOk, OnErr};
-ghost use Rattle.cd_world.specs.Standing.{is_pin};
+ghost use Rattle.std.specs.Prelude.{◌≡◌, ◌≤◌, ◌<◌, ◌++◌, ◌∷◌, [], List, length, insert, remove, filter, map, not, ◌&&◌, OnOk, OnErr};
+ghost use Rattle.cd_world.specs.Standing.{is_pin, is_pinned, is_expired};
+ghost use Rattle.cd_world.specs.Changes.{marked};
 
+use crate::expiring::{drop_unpinned, mark_expired};
 use cd_base::Memory;
 use cd_block::{BlockId, Descr};
 use std::alloc::Global;
@@ -98,6 +100,18 @@ impl Rows<PinRow> {
         ensures { self.new ≡ filter (λ r. not (is_pin worker pin r)) self.old }
     {
         self.all.retain(|r| !(r.pin == pin && r.worker == worker));
+    }
+}
+
+impl Rows<Descr> {
+    /// Drops the blocks that expire by a masterchain block and its shard tops and have none of these pins. Those that
+    /// expire and have one are leaving from then on.
+    pub fn expire(&mut self, master: &Descr, pins: &[PinRow])
+        ensures { self.new ≡ map (marked master.now) (filter (λ d. not (is_expired master.now d
+            && not (is_pinned pins.now d.id))) self.old) }
+    {
+        drop_unpinned(&mut self.all, master, pins);
+        mark_expired(&mut self.all, master);
     }
 }
 
