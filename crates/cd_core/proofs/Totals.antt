@@ -113,10 +113,19 @@ pub so-far-none : (es : List (List ℕ × List ℕ)) → AreSoFar es None 0 0
 so-far-none es = record {
   cells_are = ap (λ (xs : List (List ℕ × List ℕ)). at_most_last (0 + length xs)) (above-all es) ∙ ap at_most_last (zero-add (length es));
   counts_are = ap (λ (xs : List (List ℕ × List ℕ)). at_most_last (0 + sum_in xs)) (above-all es) ∙ ap at_most_last (zero-add (sum_in es));
+  few_cells = omega arith;
+  few_counts = omega arith;
 }
+
+pub told-none : (o : Option Contents) → IfSome o (λ c. AreSoFar (entries c.cells) None 0 0)
+told-none None = tt
+told-none (Some c) = so-far-none (entries c.cells)
 
 saturated : (c n m s : ℕ) → at_most_last (c + (n + m)) ≡ s → at_most_last (at_most_last (c + n) + m) ≡ s
 saturated c n m s e = omega (arith, e)
+
+below-last : (n : ℕ) → at_most_last n < 2 ^ 64
+below-last n = omega arith
 
 so-far-more : (m : Table) (after : Option (List ℕ)) (e : List ℕ × List ℕ) (cells counts : ℕ) → next_entry m after ≡ Some e → AreSoFar (entries m) after cells counts
     → AreSoFar (entries m) (Some e.0) (at_most_last (cells + 1)) (at_most_last (counts + count_in e.1))
@@ -126,14 +135,16 @@ so-far-more m after e cells counts at so =
     record {
       cells_are = saturated cells 1 (length left) _ (ap (λ n. at_most_last (cells + n)) (omega arith) ∙ ap (λ (xs : List (List ℕ × List ℕ)). at_most_last (cells + length xs)) (sym rest) ∙ so.cells_are);
       counts_are = saturated counts (count_in e.1) (sum_in left) _ (ap (λ n. at_most_last (counts + n)) (sym (sum-cons e left)) ∙ ap (λ (xs : List (List ℕ × List ℕ)). at_most_last (counts + sum_in xs)) (sym rest) ∙ so.counts_are);
+      few_cells = below-last (cells + 1);
+      few_counts = below-last (counts + count_in e.1);
     }
 
-so-far-all : (m : Table) (after : Option (List ℕ)) (cells counts : ℕ) → next_entry m after ≡ None → cells < 2 ^ 64 → counts < 2 ^ 64 → AreSoFar (entries m) after cells counts → AreSums (entries m) cells counts
-so-far-all m after cells counts at few_cells few_counts so =
+so-far-all : (m : Table) (after : Option (List ℕ)) (cells counts : ℕ) → next_entry m after ≡ None → AreSoFar (entries m) after cells counts → AreSums (entries m) cells counts
+so-far-all m after cells counts at so =
     let none = next-none m after at in
     let a = ap (λ (xs : List (List ℕ × List ℕ)). at_most_last (cells + length xs)) (sym none) ∙ so.cells_are in
     let b = ap (λ (xs : List (List ℕ × List ℕ)). at_most_last (counts + sum_in xs)) (sym none) ∙ so.counts_are in
-    record { cells_are = omega (arith, a); counts_are = nothing-more counts _ few_counts b }
+    record { cells_are = nothing-more cells _ so.few_cells a; counts_are = nothing-more counts _ so.few_counts b }
   where
     nothing-more : (n s : ℕ) → n < 2 ^ 64 → at_most_last (n + 0) ≡ s → n ≡ s
     nothing-more n s few e = omega (arith, e)
@@ -148,10 +159,10 @@ told-more (Some c) now after hash bytes cells counts cells' counts' same so next
     let at : Some (hash, bytes) ≡ next_entry c.cells after = of-some now c (λ x. Some (hash, bytes) ≡ next_entry x.cells after) same next in
     subst₂ (λ a b. AreSoFar (entries c.cells) (Some hash) a b) (sym cells_are) (sym counts_are) (so-far-more c.cells after (hash, bytes) cells counts (sym at) so)
 
-pub told-all : (first now : Option Contents) (after : Option (List ℕ)) (cells counts : ℕ) → now ≡ first → cells < 2 ^ 64 → counts < 2 ^ 64
+pub told-all : (first now : Option Contents) (after : Option (List ℕ)) (cells counts : ℕ) → now ≡ first
     → IfSome first (λ c. AreSoFar (entries c.cells) after cells counts) → IfSome now (λ c. None ≡ next_entry c.cells after)
     → IfSome first (λ c. AreSums (entries c.cells) cells counts)
-told-all None now after cells counts same few_cells few_counts so next = tt
-told-all (Some c) now after cells counts same few_cells few_counts so next =
+told-all None now after cells counts same so next = tt
+told-all (Some c) now after cells counts same so next =
     let at : None ≡ next_entry c.cells after = of-some now c (λ x. None ≡ next_entry x.cells after) same next in
-    so-far-all c.cells after cells counts (sym at) few_cells few_counts so
+    so-far-all c.cells after cells counts (sym at) so

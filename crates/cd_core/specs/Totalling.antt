@@ -1,5 +1,5 @@
 -- Inner: the records of a table added up, while they are gone over.
-use Rattle.std.specs.Prelude.{◌≡◌, ℕ, ◌+◌, List, length, filter, Option, Result, Ok, Err}
+use Rattle.std.specs.Prelude.{◌≡◌, ℕ, ◌+◌, ◌^◌, ◌<◌, List, length, filter, Option, Result, Ok, Err}
 use Rattle.std.specs.List.{sum_by}
 use Rattle.cd_keeper.specs.Contents.{is_above}
 use Rattle.cd_record.specs.declared.record.Record.{Record}
@@ -31,3 +31,5 @@ pub record AreSums (es : List (List ℕ × List ℕ)) (cells counts : ℕ) : Typ
 pub record AreSoFar (es : List (List ℕ × List ℕ)) (after : Option (List ℕ)) (cells counts : ℕ) : Type 0 where
   pub cells_are : at_most_last (cells + length (above after es)) ≡ at_most_last (length es)
   pub counts_are : at_most_last (counts + sum_in (above after es)) ≡ at_most_last (sum_in es)
+  pub few_cells : cells < 2 ^ 64
+  pub few_counts : counts < 2 ^ 64

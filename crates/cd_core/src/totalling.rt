@@ -53,17 +53,16 @@ fn total_cells<K: Keeper>(keeper: &mut K) -> Result<(u64, u64), UnpinFault>
     let mut cells: u64 = 0;
     let mut counts: u64 = 0;
     'reading: for _ in 0..u64::MAX {
-        let found = match keeper.next_cell(after) {
-            Ok(found) => found,
+        match keeper.next_cell(after) {
+            Ok(Some((hash, bytes))) => {
+                cells = cells.saturating_add(1);
+                counts = counts.saturating_add(count_in(bytes.as_slice()));
+                after = Some(hash);
+            }
+            Ok(None) => return Ok((cells, counts)),
             Err(KeepFault::Failed) => return Err(UnpinFault::Keeper),
             Err(KeepFault::Memory) => return Err(UnpinFault::Memory),
-        };
-        let Some((hash, bytes)) = found else {
-            return Ok((cells, counts));
-        };
-        cells = cells.saturating_add(1);
-        counts = counts.saturating_add(count_in(bytes.as_slice()));
-        after = Some(hash);
+        }
     }
     // No keeper has as many records.
     Err(UnpinFault::Memory)
