@@ -29,14 +29,18 @@ use Rattle.cd_count.specs.Reading.{stored_in, as_read}
 use Rattle.cd_count.specs.PlanWorlds.{record_of_cell}
 use Rattle.cd_count.specs.SoundContents.{AreSoundContents}
 use Rattle.cd_count.proofs.Readable.{readable}
+use Rattle.cd_core.specs.Cores.{Holds}
 use Rattle.cd_core.specs.Effects.{at_most_last}
 use Rattle.cd_core.specs.Totalling.{count_read, count_in, sum_in, above, AreSoFar, AreSums}
 
 -- ---- numbers by their keys
 
 module _ {A : Type 0} (f : List ℕ × A → ℕ) where
+  abbrev pair_of : List ℕ × A → List ℕ × ℕ
+  pair_of e = (e.0, f e)
+
   abbrev numbered : List (List ℕ × A) → List (List ℕ × ℕ)
-  numbered es = map (λ e. (e.0, f e)) es
+  numbered es = map pair_of es
 
   below-numbered : (key : List ℕ) (es : List (List ℕ × A)) → below_all (slice_cmp nat_cmp) key (numbered es) ≡ below_all (slice_cmp nat_cmp) key es
   below-numbered key [] = refl
@@ -63,21 +67,24 @@ module _ {A : Type 0} (f : List ℕ × A → ℕ) where
 -- two tables with the same numbers under the same keys
 same-numbers : {A B : Type 0} (m : FinMap (slice_cmp nat_cmp) A) (n : FinMap (slice_cmp nat_cmp) B) (f : List ℕ × A → ℕ) (g : List ℕ × B → ℕ)
     → ((q : List ℕ) → option_map (λ x. f (q, x)) (get m q) ≡ option_map (λ y. g (q, y)) (get n q))
-    → map (λ e. (e.0, f e)) (entries m) ≡ map (λ e. (e.0, g e)) (entries n)
+    → numbered f (entries m) ≡ numbered g (entries n)
 same-numbers m n f g same =
-    let a = from_sorted {R = slice_cmp nat_cmp} (map (λ e. (e.0, f e)) (entries m)) in
-    let b = from_sorted {R = slice_cmp nat_cmp} (map (λ e. (e.0, g e)) (entries n)) in
+    let a = from_sorted {R = slice_cmp nat_cmp} (numbered f (entries m)) in
+    let b = from_sorted {R = slice_cmp nat_cmp} (numbered g (entries n)) in
     let one : a ≡ b = same_map nat_list_cmp_total (slice_cmp-IsAntisymmetric nat_cmp-IsAntisymmetric) a b (λ q.
-    get-from_sorted (slice_cmp nat_cmp) (map (λ e. (e.0, f e)) (entries m)) q (numbers f m) ∙ find-numbered f (λ x. f (q, x)) q (λ x. refl) (entries m)
+    get-from_sorted (slice_cmp nat_cmp) (numbered f (entries m)) q (numbers f m) ∙ find-numbered f (λ x. f (q, x)) q (λ x. refl) (entries m)
     ∙ ap (option_map (λ x. f (q, x))) (sym (finite.get-entries m q)) ∙ same q ∙ ap (option_map (λ y. g (q, y))) (finite.get-entries n q)
-    ∙ sym (find-numbered g (λ y. g (q, y)) q (λ y. refl) (entries n)) ∙ sym (get-from_sorted (slice_cmp nat_cmp) (map (λ e. (e.0, g e)) (entries n)) q (numbers g n))) in
-    sym (entries-from_sorted (slice_cmp nat_cmp) (map (λ e. (e.0, f e)) (entries m)) (numbers f m)) ∙ ap entries one ∙ entries-from_sorted (slice_cmp nat_cmp) (map (λ e. (e.0, g e)) (entries n)) (numbers g n)
+    ∙ sym (find-numbered g (λ y. g (q, y)) q (λ y. refl) (entries n)) ∙ sym (get-from_sorted (slice_cmp nat_cmp) (numbered g (entries n)) q (numbers g n))) in
+    sym (entries-from_sorted (slice_cmp nat_cmp) (numbered f (entries m)) (numbers f m)) ∙ ap entries one ∙ entries-from_sorted (slice_cmp nat_cmp) (numbered g (entries n)) (numbers g n)
 
 -- ---- a world's records
 
 module _ (H : List ℕ → Hash256) (t : ToldWorld) (contents : Contents) (so : AreSoundContents H t contents) where
   abbrev counted : List ℕ × Tree → ℕ
   counted e = count H t e.0
+
+  abbrev read_count : List ℕ × List ℕ → ℕ
+  read_count e = count_in e.1
 
   count-under : (q : List ℕ) (o : Option (List ℕ)) (p : Option Tree) → (option_map plain_record o ≡ option_map (record_value H (shown t) q) p)
       → option_and_then (λ bytes. as_read (record_in bytes)) o ≡ option_map (record_of_cell H (shown t) q) p
@@ -91,18 +98,18 @@ module _ (H : List ℕ → Hash256) (t : ToldWorld) (contents : Contents) (so : 
       by (Ok r) e = ap (λ (y : Record). y.count) (same_Some r _ e)
       by (Err fault) e = absurd (none-some _ e)
 
-  same-counts : map (λ e. (e.0, count_in e.1)) (entries contents.cells) ≡ map (λ e. (e.0, counted e)) (entries (held H t))
-  same-counts = same-numbers contents.cells (held H t) (λ e. count_in e.1) counted (λ q.
+  same-counts : numbered read_count (entries contents.cells) ≡ numbered counted (entries (held H t))
+  same-counts = same-numbers contents.cells (held H t) read_count counted (λ q.
       count-under q (get contents.cells q) (get (held H t) q) (contents-cell H (shown t) contents so.are q ∙ image-cell H (shown t) q) (readable H t contents so q))
 
   pub as-many : length (entries contents.cells) ≡ length (entries (held H t))
-  as-many = sym (length-map (entries contents.cells) (λ e. (e.0, count_in e.1))) ∙ ap length same-counts ∙ length-map (entries (held H t)) (λ e. (e.0, counted e))
+  as-many = sym (length-map (entries contents.cells) (pair_of read_count)) ∙ ap length same-counts ∙ length-map (entries (held H t)) (pair_of counted)
 
   pub same-sum : sum_in (entries contents.cells) ≡ sum_by counted (entries (held H t))
   same-sum =
-      sym (sum_by-map (λ (e : List ℕ × ℕ). e.1) (λ (e : List ℕ × List ℕ). (e.0, count_in e.1)) (entries contents.cells))
+      sym (sum_by-map (λ (e : List ℕ × ℕ). e.1) (pair_of read_count) (entries contents.cells))
       ∙ ap (sum_by (λ (e : List ℕ × ℕ). e.1)) same-counts
-      ∙ sum_by-map (λ (e : List ℕ × ℕ). e.1) (λ (e : List ℕ × Tree). (e.0, counted e)) (entries (held H t))
+      ∙ sum_by-map (λ (e : List ℕ × ℕ). e.1) (pair_of counted) (entries (held H t))
 
 -- ---- adding up
 
@@ -166,3 +173,12 @@ told-all None now after cells counts same so next = tt
 told-all (Some c) now after cells counts same so next =
     let at : None ≡ next_entry c.cells after = of-some now c (λ x. None ≡ next_entry x.cells after) same next in
     so-far-all c.cells after cells counts (sym at) so
+
+-- ---- the core
+
+pub sums-told : {K : Type 0} (held_in : K → Option Contents) (H : List ℕ → Hash256) (t : ToldWorld) (k : K) (cells counts : ℕ) → Holds held_in H t k
+    → IfSome (held_in k) (λ contents. AreSums (entries contents.cells) cells counts)
+    → (cells ≡ at_most_last (length (entries (held H t)))) × (counts ≡ at_most_last (sum_by (λ e. count H t e.0) (entries (held H t))))
+sums-told held_in H t k cells counts h told =
+    let so = of-some (held_in k) h.contents (λ c. AreSums (entries c.cells) cells counts) h.is_held told in
+    (so.cells_are ∙ ap at_most_last (as-many H t h.contents h.are), so.counts_are ∙ ap at_most_last (same-sum H t h.contents h.are))

@@ -1,9 +1,9 @@
 //! What the store holds, counted.
-ghost use Rattle.std.specs.Prelude.{◌≡◌, IfOk, IfSome};
+ghost use Rattle.std.specs.Prelude.{◌≡◌, length, IfOk, IfSome};
 ghost use Rattle.std.specs.FinMap as finite;
 ghost use Rattle.cd_keeper.specs.Keeping.{KeepsHeld};
 ghost use Rattle.cd_event.specs.Turning.{RisesOnly};
-ghost use Rattle.cd_core.specs.Effects.{AreTotals};
+ghost use Rattle.cd_core.specs.Effects.{AreTotals, at_most_last};
 ghost use Rattle.cd_core.specs.Steps.{is_keeper_fault, IsOutsideFault};
 ghost use Rattle.cd_core.specs.Totalling as spec;
 ghost use Rattle.cd_core.specs.Totalling.{AreSums};
@@ -13,7 +13,7 @@ use cd_cell::Hash32;
 use cd_event::UnpinFault;
 use cd_keeper::{KeepFault, Keeper};
 use cd_record::decode;
-use cd_world::Totals;
+use cd_world::{Totals, World};
 
 impl<K: Keeper, H: Hash32> Core<K, H> {
     /// The numbers of blocks, of held cells and of all references to these, each no more than the last `u64`. Reads
@@ -28,16 +28,23 @@ impl<K: Keeper, H: Hash32> Core<K, H> {
         ensures totals { IfOk result
             (AreTotals K.held H.digest_of self.old.start self.old.journal) }
     {
-        let blocks = self.world.blocks.as_slice().len() as u64;
-        match total_cells(&mut self.keeper) {
-            Ok((cells, counts)) => Ok(Totals {
-                blocks,
-                cells,
-                counts,
-            }),
-            Err(fault) => Err(fault),
-        }
+        let blocks = count_blocks(&self.world);
+        let sums = match total_cells(&mut self.keeper) {
+            Ok(sums) => sums,
+            Err(fault) => return Err(fault),
+        };
+        Ok(Totals {
+            blocks,
+            cells: sums.0,
+            counts: sums.1,
+        })
     }
+}
+
+fn count_blocks(world: &World) -> u64
+    ensures { result ≡ at_most_last (length world.now.blocks) }
+{
+    world.blocks.as_slice().len() as u64
 }
 
 /// The number of all records, and that of all references that they count.
