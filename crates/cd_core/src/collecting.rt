@@ -29,8 +29,8 @@ use std::alloc::Global;
 
 /// Whether a pin but this one is on its block.
 fn is_shared(world: &World, row: &PinRow) -> bool
-    ensures { result ≡ list_any (λ r. not (is_pin row.now.worker row.now.pin r) && names_block row.now.block r)
-        world.now.pins }
+    ensures { result ≡ list_any (λ r. not (is_pin row.now.worker row.now.pin r)
+        && names_block row.now.block r) world.now.pins }
 {
     world
         .pins
@@ -41,7 +41,8 @@ fn is_shared(world: &World, row: &PinRow) -> bool
 
 /// Whether another pin is on the block of this one.
 fn shares_block(row: &PinRow, other: &PinRow) -> bool
-    ensures { result ≡ not (is_pin row.now.worker row.now.pin other.now) && names_block row.now.block other.now }
+    ensures { result ≡ not (is_pin row.now.worker row.now.pin other.now)
+        && names_block row.now.block other.now }
 {
     !(other.pin == row.pin && other.worker == row.worker) && is_same_id(&other.block, &row.block)
 }

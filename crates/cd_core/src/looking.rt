@@ -34,9 +34,10 @@ impl<K: Keeper, H: Hash32> Core<K, H> {
     ) -> Result<Vec<Option<Face>>, LookFault>
         requires { length hashes.now ≤ 256 }
         ensures start { self.new.start ≡ self.old.start }
-        ensures adds { Adds K.held H.digest_of self.old.start self.old.journal who (Look pin (length hashes.now))
-            (look_reply result) self.new.journal }
-        ensures cause { RisesOnly (is_keeper (look_reply result)) (K.faults self.old.keeper) (K.faults self.new.keeper) }
+        ensures adds { Adds K.held H.digest_of self.old.start self.old.journal who
+            (Look pin (length hashes.now)) (look_reply result) self.new.journal }
+        ensures cause { RisesOnly (is_keeper (look_reply result))
+            (K.faults self.old.keeper) (K.faults self.new.keeper) }
         ensures reads { K.reads self.new.keeper ≤ K.reads self.old.keeper + length hashes.now }
         ensures found { IfOk result (λ found. length found.items ≡ length hashes.now) }
         ensures good { IfOk result (λ found. AreGood found.items) }
@@ -71,7 +72,8 @@ fn look_under<K: Keeper, H: Hash32>(
     hashes: &[Hash256],
 ) -> Result<Vec<Option<Face>>, LookFault>
     requires kept { IsWritable world.now }
-    ensures did { (limit : ℕ) → limit ≤ GREATEST_COUNT → Did K.held H.digest_of K.trail {X = H} K.batches K.faults limit world.now keeper.old who
+    ensures did { (limit : ℕ) → limit ≤ GREATEST_COUNT
+        → Did K.held H.digest_of K.trail {X = H} K.batches K.faults limit world.now keeper.old who
         (Look pin (length hashes.now)) (look_reply result) world.now keeper.new }
     ensures reads { K.reads keeper.new ≤ K.reads keeper.old + length hashes.now }
     ensures found { IfOk result (λ found. length found.items ≡ length hashes.now) }

@@ -57,7 +57,8 @@ fn begin_pin<K: Keeper, H: Hash32>(
 ) -> Result<Pinned, PinFault>
     requires kept { IsWritable world.old }
     requires next { world.old.next + 1 < 2 ^ 64 }
-    ensures did { (limit : ℕ) (k : K) → limit ≤ GREATEST_COUNT → Did K.held H.digest_of K.trail {X = H} K.batches K.faults limit world.old k who
+    ensures did { (limit : ℕ) (k : K) → limit ≤ GREATEST_COUNT
+        → Did K.held H.digest_of K.trail {X = H} K.batches K.faults limit world.old k who
         (Pin id.now) (pin_reply result) world.new k }
     ensures root { IfOk result (λ pinned. (d : Descr) × (kept_at world.old id.now ≡ Some d)
         × (pinned.root ≡ root_info d)) }

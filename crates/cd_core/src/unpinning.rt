@@ -61,7 +61,8 @@ fn end_pin<K: Keeper, H: Hash32>(
         (Unpin pin) (unpin_reply result) world.new keeper.new }
     ensures quiet { is_pin_collected world.old (pin_at world.old who.worker pin) ≡ false
         → K.reads keeper.new ≡ K.reads keeper.old }
-    ensures reads { (t : ToldWorld) (dead : List Tree) → t.world ≡ world.old → Holds K.held H.digest_of t keeper.old
+    ensures reads { (t : ToldWorld) (dead : List Tree) → t.world ≡ world.old
+        → Holds K.held H.digest_of t keeper.old
         → AreCollected H.digest_of t who.worker pin dead
         → K.reads keeper.new ≤ K.reads keeper.old + (4 * length dead + 1) }
 {
