@@ -42,18 +42,21 @@ module _ {K X : Type 0} (held : K → Option Contents) (H : List ℕ → Hash256
       → IfSome (held k) (λ contents. AreSoundContents H (told_in contents (opened blocks)) contents)
       → (w ≡ world_after start journal) × IsCore held H trail batches faults start journal k
   adopted k blocks start w journal is value keeper none ordered fit are limited told =
-      subst (λ es. (w ≡ world_after start es) × IsCore held H trail batches faults start es k) (sym none) (sym value, record {
-        follow = tt;
-        writable = subst IsWritable (sym at) (writable-opened blocks ordered fit are);
-        numbered = subst (λ (v : World). v.next ≤ 0) (sym at) (omega arith);
-        limited = limited;
-        is_batches = ap batches (sym keeper);
-        is_faults = let same = ap faults keeper in omega (arith, same);
-        silent = λ e. ap held (sym keeper) ∙ e;
-        told = subst (λ (v : World). IfSome (option_map (λ contents. told_in contents v) (held start.keeper.value)) (λ t. IsHeld held H {X = X} trail start.limit t [] start.keeper.value k)) (sym at)
-            (subst (λ (x : K). IfSome (option_map (λ contents. told_in contents (opened blocks)) (held x)) (λ t. IsHeld held H {X = X} trail start.limit t [] x k)) (sym keeper)
-            (by (held k) refl told));
-      })
+      subst (λ es. (w ≡ world_after start es) × IsCore held H trail batches faults start es k) (sym none) (
+        sym value,
+        record {
+          follow = tt;
+          writable = subst IsWritable (sym at) (writable-opened blocks ordered fit are);
+          numbered = subst (λ (v : World). v.next ≤ 0) (sym at) (omega arith);
+          limited = limited;
+          is_batches = ap batches (sym keeper);
+          is_faults = let same = ap faults keeper in omega (arith, same);
+          silent = λ e. ap held (sym keeper) ∙ e;
+          told = subst (λ (v : World). IfSome (option_map (λ contents. told_in contents v) (held start.keeper.value)) (λ t. IsHeld held H {X = X} trail start.limit t [] start.keeper.value k)) (sym at)
+              (subst (λ (x : K). IfSome (option_map (λ contents. told_in contents (opened blocks)) (held x)) (λ t. IsHeld held H {X = X} trail start.limit t [] x k)) (sym keeper)
+              (by (held k) refl told));
+        },
+      )
     where
       at : start.world.value ≡ opened blocks
       at = value ∙ is

@@ -28,9 +28,10 @@ not-before a b before same =
 
 apart-ordered : (xs : List Descr) → InOrder IsBeforeBlock xs → ((d : Descr) → Contains xs d → IsDescr d) → HaveKeysApart xs
 apart-ordered [] up are = tt
-apart-ordered (d ∷ ds) up are =
-    (λ x h. keys-apart d x (are d (Contains-first d ds)) (are x (Contains-later d ds x h)) (not-before d.id x.id (up.0 x h)),
-     apart-ordered ds up.1 (λ x h. are x (Contains-later d ds x h)))
+apart-ordered (d ∷ ds) up are = (
+  λ x h. keys-apart d x (are d (Contains-first d ds)) (are x (Contains-later d ds x h)) (not-before d.id x.id (up.0 x h)),
+  apart-ordered ds up.1 (λ x h. are x (Contains-later d ds x h)),
+)
 
 -- no two blocks have one key
 pub keys-apart-in : (w : World) → IsWritable w → HaveKeysApart w.blocks
@@ -50,9 +51,10 @@ module _ {A : Type 0} (p : A → Bool) where
   none-pass [] none = (refl, refl)
   none-pass (x ∷ xs) none =
       let rest = none-pass xs (λ y h. none y (Contains-later x xs y h)) in
-      let here = none x (Contains-first x xs) in
-      (ap (λ b. cond b (x ∷ filter p xs) (filter p xs)) here ∙ rest.0,
-       ap (λ b. cond (not b) (x ∷ filter (λ y. not (p y)) xs) (filter (λ y. not (p y)) xs)) here ∙ ap (λ ys. x ∷ ys) rest.1)
+      let here = none x (Contains-first x xs) in (
+        ap (λ b. cond b (x ∷ filter p xs) (filter p xs)) here ∙ rest.0,
+        ap (λ b. cond (not b) (x ∷ filter (λ y. not (p y)) xs) (filter (λ y. not (p y)) xs)) here ∙ ap (λ ys. x ∷ ys) rest.1,
+      )
 
   pub there : (xs : List A) (i : ℕ) (x : A) → slice_get xs i ≡ Some x → Contains xs x
   there [] i x at = absurd (none-some x at)
@@ -65,14 +67,16 @@ module _ {A : Type 0} (p : A → Bool) where
   alone-at (y ∷ ys) zero x alone at pass =
       let same : y ≡ x = same_Some y x at in
       let here : p y ≡ true = ap p same ∙ pass in
-      let rest = none-pass ys (alone.0 here) in
-      (ap (λ b. cond b (y ∷ filter p ys) (filter p ys)) here ∙ ap (λ zs. y ∷ zs) rest.0 ∙ ap (λ z. z ∷ []) same,
-       sym (ap (λ b. cond (not b) (y ∷ filter (λ z. not (p z)) ys) (filter (λ z. not (p z)) ys)) here ∙ rest.1))
+      let rest = none-pass ys (alone.0 here) in (
+        ap (λ b. cond b (y ∷ filter p ys) (filter p ys)) here ∙ ap (λ zs. y ∷ zs) rest.0 ∙ ap (λ z. z ∷ []) same,
+        sym (ap (λ b. cond (not b) (y ∷ filter (λ z. not (p z)) ys) (filter (λ z. not (p z)) ys)) here ∙ rest.1),
+      )
   alone-at (y ∷ ys) (suc i) x alone at pass =
       let other : p y ≡ false = false_from (p y) (λ here. true≢false (sym pass ∙ alone.0 here x (there ys i x at))) in
-      let rest = alone-at ys i x alone.1 at pass in
-      (ap (λ b. cond b (y ∷ filter p ys) (filter p ys)) other ∙ rest.0,
-       ap (λ zs. y ∷ zs) rest.1 ∙ sym (ap (λ b. cond (not b) (y ∷ filter (λ z. not (p z)) ys) (filter (λ z. not (p z)) ys)) other))
+      let rest = alone-at ys i x alone.1 at pass in (
+        ap (λ b. cond b (y ∷ filter p ys) (filter p ys)) other ∙ rest.0,
+        ap (λ zs. y ∷ zs) rest.1 ∙ sym (ap (λ b. cond (not b) (y ∷ filter (λ z. not (p z)) ys) (filter (λ z. not (p z)) ys)) other),
+      )
 
 -- ---- the block that goes with a pin
 
@@ -85,9 +89,10 @@ module _ (w : World) (row : PinRow) where
 
   alone-ordered : (xs : List Descr) → InOrder IsBeforeBlock xs → IsAlone (goes_with w row) xs
   alone-ordered [] up = tt
-  alone-ordered (d ∷ ds) up =
-      (λ goes x h. false_from (goes_with w row x) (λ too. not-before d.id x.id (up.0 x h) (goes-id d goes ∙ sym (goes-id x too))),
-       alone-ordered ds up.1)
+  alone-ordered (d ∷ ds) up = (
+    λ goes x h. false_from (goes_with w row x) (λ too. not-before d.id x.id (up.0 x h) (goes-id d goes ∙ sym (goes-id x too))),
+    alone-ordered ds up.1,
+  )
 
   pub goes-alone : IsWritable w → IsAlone (goes_with w row) w.blocks
   goes-alone is = let tidy = is.tidy in alone-ordered w.blocks (order_from_AllPairs IsBeforeBlock w.blocks tidy.ordered)

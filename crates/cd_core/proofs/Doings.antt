@@ -77,8 +77,8 @@ module _ {K : Type 0} (held : K → Option Contents) (H : List ℕ → Hash256) 
           → KeepsHeld held trail batches k k' → faults k' ≡ faults k → Did held H trail batches faults limit w k who event (Some (reply.Refused r)) w k'
       refused-did r ready refused other keeps same =
           let by : (v : World) → v ≡ w → (cells : Option Refusal) → FollowsBy H v cells (entry_of who event (reply.Refused r)) =
-              λ v is cells. subst (λ (x : World). FollowsBy H x cells (entry_of who event (reply.Refused r))) (sym is)
-              (inl (ap (λ o. answered (option_or o cells) (reply_of w who.worker event)) (sym refused))) in
+          λ v is cells. subst (λ (x : World). FollowsBy H x cells (entry_of who event (reply.Refused r))) (sym is)
+          (inl (ap (λ o. answered (option_or o cells) (reply_of w who.worker event)) (sym refused))) in
           record {
             world = refl;
             follows = (None, tt, by w refl None);
@@ -99,8 +99,8 @@ module _ {K : Type 0} (held : K → Option Contents) (H : List ℕ → Hash256) 
           → Did held H trail batches faults limit w k who event (Some (reply.Refused refusal.Keeper)) w k'
       failed-did ready free asks keeps later rose =
           let by : (v : World) → v ≡ w → (cells : Option Refusal) → FollowsBy H v cells (entry_of who event (reply.Refused refusal.Keeper)) =
-              λ v is cells. subst (λ (x : World). FollowsBy H x cells (entry_of who event (reply.Refused refusal.Keeper))) (sym is)
-              (inr (record { reply = refl; allowed = free; asks = asks })) in
+          λ v is cells. subst (λ (x : World). FollowsBy H x cells (entry_of who event (reply.Refused refusal.Keeper))) (sym is)
+          (inr (record { reply = refl; allowed = free; asks = asks })) in
           record {
             world = refl;
             follows = (None, tt, by w refl None);
@@ -122,8 +122,8 @@ module _ {K : Type 0} (held : K → Option Contents) (H : List ℕ → Hash256) 
           → Did held H trail batches faults limit w k who event (Some (reply.Refused r)) w k'
       clashed-did r ready free other may keeps same cells =
           let by : (v : World) → v ≡ w → FollowsBy H v (Some r) (entry_of who event (reply.Refused r)) =
-              λ v is. subst (λ (x : World). FollowsBy H x (Some r) (entry_of who event (reply.Refused r))) (sym is)
-              (inl (ap (λ o. answered (option_or o (Some r)) (reply_of w who.worker event)) (sym free))) in
+          λ v is. subst (λ (x : World). FollowsBy H x (Some r) (entry_of who event (reply.Refused r))) (sym is)
+          (inl (ap (λ o. answered (option_or o (Some r)) (reply_of w who.worker event)) (sym free))) in
           record {
             world = refl;
             follows = (Some r, may, by w refl);

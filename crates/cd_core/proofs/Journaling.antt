@@ -1,9 +1,9 @@
 -- What a call did, as one entry more of the journal.
-use Rattle.std.proofs.Common.{◌≡◌, ℕ, ◌+◌, ◌-◌, ◌^◌, ◌≤◌, Bool, true, false, cond, List, [], ◌∷◌, ◌++◌, length, Option, Some, None, refl, sym, ap, ◌∙◌, subst, arith, append_assoc, append-nil, length-append, zero-add}
+use Rattle.std.proofs.Common.{◌≡◌, ℕ, ◌+◌, ◌-◌, ◌^◌, ◌<◌, ◌≤◌, map, Bool, true, false, cond, List, [], ◌∷◌, ◌++◌, length, Option, Some, None, refl, sym, ap, ◌∙◌, subst, arith, append_assoc, append-nil, length-append, zero-add}
 use Rattle.std.proofs.lemmas.Bool.{true≢false}
 use Rattle.std.proofs.lemmas.List.Sums.{sum_by-append}
-use Rattle.std.specs.Prelude.{min, IfSome}
-use Rattle.std.specs.Option.{option_map}
+use Rattle.std.specs.Prelude.{min, IfSome, Result, Ok, Err, IfOk}
+use Rattle.std.specs.Option.{option_map, option_to_list}
 use Rattle.std.specs.List.{count_by}
 use Rattle.cd_base.specs.declared.hash.Hash256.{Hash256}
 use Rattle.cd_base.specs.Counts.{one_more, Rose}
@@ -19,9 +19,9 @@ use Rattle.cd_event.specs.Replies.{entry_of, entries_of}
 use Rattle.cd_event.specs.Turning.{is_keeper, RisesOnly}
 use Rattle.cd_world.specs.declared.world.World.{World}
 use Rattle.cd_world.specs.declared.world.PinRow.{PinRow}
-use Rattle.cd_world.specs.Standing.{kept_at}
-use Rattle.cd_world.specs.Changes.{without_pin, without_pins}
-use Rattle.cd_world.specs.Machine.{is_refused, makes_batch, moved, after, replay, unless_expired}
+use Rattle.cd_world.specs.Standing.{kept_at, pin_at}
+use Rattle.cd_world.specs.Changes.{with_block, stored, without_pin, without_pins}
+use Rattle.cd_world.specs.Machine.{merge_rows, blocks_of, is_refused, makes_batch, moved, after, replay, unless_expired}
 use Rattle.cd_world.specs.Following.{Follows, AllFollow}
 use Rattle.cd_world.specs.Told.{ToldWorld, shown, told_after, told_replay, FollowsTold, AllFollowTold}
 use Rattle.cd_world.specs.Image.{IsContentsOf}
@@ -30,7 +30,10 @@ use Rattle.cd_world.specs.Unfolded.{told_in}
 use Rattle.cd_world.proofs.Replays.{replay-append, all_follow-join, told_replay-append, told_replay-world, told_follow-join, worlds_after-append}
 use Rattle.cd_core.specs.declared.start.CoreStart.{CoreStart}
 use Rattle.cd_core.specs.Cores.{CoreView, IsCore, IsHeld, IsTrailed, Holds, IsWritable, world_after, world_of, told_start, failures, batched}
-use Rattle.cd_core.specs.Effects.{Adds}
+use Rattle.cd_core.specs.Effects.{Adds, AreSeen}
+use Rattle.cd_cell.specs.FaceView.{FaceView}
+use Rattle.cd_event.specs.declared.faults.LookFault.{LookFault}
+use Rattle.cd_world.specs.Told.{seen}
 use Rattle.cd_core.specs.Steps.{Did, DidTold, moved_by}
 
 -- ---- the next pin's number
@@ -48,8 +51,10 @@ module _ {X : Type 0} where
   next-moved w worker (Zero id tops p) = omega arith
   next-moved w worker (Pin id) = omega arith
   next-moved w worker (Look pin asked) = omega arith
-  next-moved w worker (Merge pin other id tops p) = omega (arith, next-without_pins _ _)
-  next-moved w worker (Unpin pin) = omega (arith, next-without_pins _ _)
+  next-moved w worker (Merge pin other id tops p) =
+      let rows = merge_rows w worker pin other in
+      omega (arith, next-without_pins (with_block w (stored id (blocks_of rows) tops p)) rows)
+  next-moved w worker (Unpin pin) = omega (arith, next-without_pins w (option_to_list (pin_at w worker pin)))
   next-moved w worker (Expire id) = omega (arith, next-expired w (kept_at w id))
 
   next-after : (w : World) (e : Entry X) → (let v = after w e in v.next) ≤ w.next + 1
@@ -206,3 +211,53 @@ module _ {K X : Type 0} (held : K → Option Contents) (H : List ℕ → Hash256
       by : (o : Option Reply) → moved_by w who event o ≡ world_after start (es ++ entries_of who event o)
       by None = is.0 ∙ ap (world_after start) (sym (append-nil es))
       by (Some reply) = ap (λ v. after v (entry_of who event reply)) is.0 ∙ sym (replay-append start.world.value es (entry_of who event reply ∷ []))
+
+  -- ---- what a call may rely on
+
+  pub ready-of : (w : World) (start : CoreStart K) (es : List (Entry X)) (k : K) → Keeps w start es k → IsWritable w
+  ready-of w start es k is = let core = is.1 in subst IsWritable (sym is.0) core.writable
+
+  pub next-fits : (w : World) (start : CoreStart K) (es fs : List (Entry X)) (k : K) (room : Entry X) → Keeps w start es k → fs ≡ es ++ room ∷ [] → length fs < 2 ^ 64 → w.next + 1 < 2 ^ 64
+  next-fits w start es fs k room is at fits =
+      let core = is.1 in
+      let few = core.numbered in
+      let same = ap (λ (v : World). v.next) is.0 in
+      let long = ap length at in
+      omega (arith, length-append es (room ∷ []))
+
+  -- where the keeper tells
+  pub told-now : (P : ToldWorld → Type 0) (w : World) (start : CoreStart K) (es : List (Entry X)) (k : K) → Keeps w start es k
+      → ((u : ToldWorld) → u.world ≡ w → Holds held H u k → P u) → IfSome (told_start held start) (λ t. P (told_replay H t es))
+  told-now P w start es k is f =
+      let core = is.1 in
+      if_told held start (λ t. IsHeld held H trail start.limit t es start.keeper.value k) (λ t. P (told_replay H t es))
+      (λ t at h. f (told_replay H t es) (told-world start es w is.0 t at) h.holds) core.told
+
+  pub seen-now : {A : Type 0} (items : A → List (Option FaceView)) (w : World) (start : CoreStart K) (es : List (Entry X)) (k : K) (hashes : List Hash256) (answer : Result A LookFault) → Keeps w start es k
+      → IfOk answer (λ found. (u : ToldWorld) → Holds held H u k → items found ≡ map (seen H u) hashes)
+      → IfOk answer (λ found. AreSeen held H start es hashes (items found))
+  seen-now items w start es k hashes (Ok found) is told = told-now (λ u. items found ≡ map (seen H u) hashes) w start es k is (λ u same h. told u h)
+  seen-now items w start es k hashes (Err fault) is told = tt
+
+  -- a call on the keeper that changes nothing that it holds
+  pub kept-core : (w : World) (start : CoreStart K) (es : List (Entry X)) (k k' : K) → Keeps w start es k → KeepsHeld held trail batches k k' → faults k ≤ faults k' → Keeps w start es k'
+  kept-core w start es k k' is keeps later =
+      let core = is.1 in
+      (is.0, record {
+        follow = core.follow;
+        writable = core.writable;
+        numbered = core.numbered;
+        limited = core.limited;
+        is_batches = keeps.same_batches ∙ core.is_batches;
+        is_faults = let low = core.is_faults in omega (arith, later);
+        silent = λ none. keeps.same_held ∙ core.silent none;
+        told = if_told held start (λ t. IsHeld held H trail start.limit t es start.keeper.value k) (λ t. IsHeld held H trail start.limit t es start.keeper.value k')
+            (λ t at h.
+            let now = h.holds in
+            let was = h.trailed in
+            record {
+              follow = h.follow;
+              holds = record { contents = now.contents; is_held = keeps.same_held ∙ now.is_held; are = now.are };
+              trailed = record { more = was.more; is_trail = keeps.same_trail ∙ was.is_trail; are = was.are };
+            }) core.told;
+      })

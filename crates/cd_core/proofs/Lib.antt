@@ -6,6 +6,7 @@ pub mod DescrTables
 pub mod Doings
 pub mod Dropped
 pub mod Ended
+pub mod Expired
 pub mod Journaling
 pub mod Keepings
 pub mod Leading
@@ -13,6 +14,8 @@ pub mod Passed
 pub mod Places
 pub mod Planned
 pub mod Stores
+pub mod Totals
 pub mod Unpinned
+pub mod Walking
 pub mod Writable
 pub mod ZeroDid

@@ -4,6 +4,7 @@ use Rattle.std.specs.Prelude.{◌||◌, ◌&&◌}
 use Rattle.std.specs.Option.{option_or}
 use Rattle.std.specs.List.{filter, list_any, AllByRecursion, IsDistinct}
 use Rattle.std.proofs.lemmas.Bool.{true≢false}
+use Rattle.std.proofs.lemmas.List.{length-map}
 use Rattle.cd_base.specs.declared.hash.Hash256.{Hash256}
 use Rattle.cd_block.specs.declared.block.BlockId.{BlockId}
 use Rattle.cd_block.specs.declared.description.Descr.{Descr}
@@ -17,7 +18,7 @@ use Rattle.cd_world.specs.Changes.{goes_at_once, marked}
 use Rattle.cd_world.proofs.Held.{same_bytes, bytes_tie}
 use Rattle.cd_world.proofs.Orders.{Contains-filter}
 use Rattle.cd_world.proofs.TidyWorlds.{id-marked}
-use Rattle.cd_core.specs.Passing.{is_left}
+use Rattle.cd_core.specs.Passing.{is_left, ArePassed}
 use Rattle.cd_core.proofs.DescrTables.{key, look, look-none, look-filtered, other-of, HaveKeysApart}
 
 module _ (w : World) (m : Descr) where
@@ -30,7 +31,7 @@ module _ (w : World) (m : Descr) where
   abbrev pub leaving : List Descr → List Descr
   leaving xs = map (marked m) (filter (is_left w m) xs)
 
-  key-marked : (d : Descr) → key (marked m d) ≡ key d
+  pub key-marked : (d : Descr) → key (marked m d) ≡ key d
   key-marked d = ap key_of (id-marked m d)
 
   -- a block that is passed and has a pin is marked
@@ -159,3 +160,9 @@ module _ (w : World) (m : Descr) where
       by true false rest = (away, rest)
       by false true rest = rest
       by false false rest = rest
+
+-- in the end as many are there as expire
+pub passed-count : (w : World) (m : Descr) (blocks : List Descr) (roots : List Hash256) (gone : List BlockId) (left : List Descr) → ArePassed w m roots gone left blocks → length roots + length left ≡ length (filter (is_expired m) blocks)
+passed-count w m blocks roots gone left are =
+    ap₂ (λ a b. a + b) (ap length are.roots_are ∙ length-map (filter (goes_at_once w m) blocks) (λ (d : Descr). d.root)) (ap length are.leaving_are ∙ length-map (filter (is_left w m) blocks) (marked m))
+    ∙ counted w m blocks

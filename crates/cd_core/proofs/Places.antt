@@ -15,6 +15,10 @@ pub on-ok : {A E : Type 0} (r : Result A E) (P : Type 0) → is_err r ≡ false 
 on-ok (Ok x) P e p = p
 on-ok (Err x) P e p = absurd cc
 
+pub on-ok-then : {A E : Type 0} (r : Result A E) (P Q : Type 0) → (P → Q) → OnOk r P → OnOk r Q
+on-ok-then (Ok x) P Q f p = f p
+on-ok-then (Err e) P Q f p = tt
+
 pub one-key-alone : (k : List ℕ) → IsDistinct same_key (k ∷ [])
 unfolding IsDistinct
 one-key-alone k = (tt, tt)

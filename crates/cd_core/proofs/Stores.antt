@@ -50,7 +50,7 @@ module _ (H : List ℕ → Hash256) where
   pub fresh-keys : (w : World) (d : Descr) → block_at w d.id ≡ None → IsDescr d → ((x : Descr) → Contains w.blocks x → IsDescr x) → (x : Descr) → Contains w.blocks x → same_key (key d) (key x) ≡ false
   fresh-keys w d fresh is are x h = keys-apart d x is (are x h) (λ same. true≢false (sym (found-there w d.id (x, h, sym same)) ∙ ap is_some fresh))
 
-  sound-block : (t : ToldWorld) → IsSound H t → (d : Descr) → Contains t.world.blocks d → IsSoundBlock H t.state d
+  pub sound-block : (t : ToldWorld) → IsSound H t → (d : Descr) → Contains t.world.blocks d → IsSoundBlock H t.state d
   sound-block t sound d h = All-contains (IsSoundBlock H t.state) t.world.blocks d sound.blocks h
 
   -- a block comes, and none goes

@@ -89,7 +89,7 @@ module _ (H : List ℕ → Hash256) (t : ToldWorld) (row : PinRow) where
   together-without d one =
       let ds = t.world.blocks in
       let gone : map root (filter (λ x. not (not (goes x))) ds) ≡ t.state d.id ∷ [] =
-          ap (map root) (filter-same (λ x. not (not (goes x))) goes (λ x. not-not (goes x)) ds ∙ one) in
+      ap (map root) (filter-same (λ x. not (not (goes x))) goes (λ x. not-not (goes x)) ds ∙ one) in
       let at = together-filter (cell_graph H) root (λ x. not (goes x)) ds in
       let few = subst (λ ts. nodes.AreTogether (cell_graph H) ts (map root (filter (λ x. not (not (goes x))) ds)) (map root ds)) (sym (states-are t (filter (λ x. not (goes x)) ds))) at in
       let many = subst (λ ts. nodes.AreTogether (cell_graph H) (states (map (block_of t) (filter (λ x. not (goes x)) ds))) (map root (filter (λ x. not (not (goes x))) ds)) ts) (sym (states-are t ds)) few in
@@ -111,11 +111,12 @@ module _ (H : List ℕ → Hash256) (t : ToldWorld) (row : PinRow) where
       let u = told_without row t in
       let one = goes-at t.world row place d ready at goes_d in
       let descs : DescsLead H change (shown t) (shown u) =
-          descs-lead H t u change [] (key_of d.id ∷ []) (sound-block sound) (sound-left sound) puts drops no-keys
-          (λ q. look-filtered goes t.world.blocks q (keys-apart-in t.world ready)
-          ∙ ap (λ (xs : List Descr). cond (list_any (same_key q) (map key xs)) None (look t.world.blocks q)) one.0) in
-      (leads H (shown t) (shown t) (shown u) [] (block_of t d ∷ []) [] dead rows counted change cells descs contents are,
-       bytes-changed change contents of_bytes bytes)
+      descs-lead H t u change [] (key_of d.id ∷ []) (sound-block sound) (sound-left sound) puts drops no-keys
+      (λ q. look-filtered goes t.world.blocks q (keys-apart-in t.world ready)
+      ∙ ap (λ (xs : List Descr). cond (list_any (same_key q) (map key xs)) None (look t.world.blocks q)) one.0) in (
+        leads H (shown t) (shown t) (shown u) [] (block_of t d ∷ []) [] dead rows counted change cells descs contents are,
+        bytes-changed change contents of_bytes bytes,
+      )
 
   -- the root of the block that goes
   pub root-named : (d : Descr) → IsSound H t → Contains t.world.blocks d → rep_bytes H (t.state d.id) ≡ d.root.0

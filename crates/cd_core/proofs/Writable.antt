@@ -42,8 +42,10 @@ written-without_pins w (row ∷ rows) are =
 
 written-marked : (m d : Descr) → IsDescrFit d × IsDescr d → IsDescrFit (marked m d) × IsDescr (marked m d)
 written-marked m d is = elim (is_expired m d) as (λ b. let v = cond b (record d { leaving = true }) d in IsDescrFit v × IsDescr v) [
-  | true ↦ (record { parents = is.0.parents; depth = is.0.depth; tops = is.0.tops; tops_on_master = is.0.tops_on_master },
-        record { id = is.1.id; parents = is.1.parents; root = is.1.root; tops = is.1.tops })
+  | true ↦ (
+    record { parents = is.0.parents; depth = is.0.depth; tops = is.0.tops; tops_on_master = is.0.tops_on_master },
+    record { id = is.1.id; parents = is.1.parents; root = is.1.root; tops = is.1.tops },
+  )
   | false ↦ is
 ]
 
@@ -61,9 +63,10 @@ module _ (H : List ℕ → Hash256) where
       → length parents ≤ 2 → AllByRecursion IsBlockId parents
       → IsDescrFit (stored id parents tops p) × IsDescr (stored id parents tops p)
   written-stored id parents tops p is few named =
-      let valid = is.valid in
-      (record { parents = few; depth = valid.shallow; tops = is.few; tops_on_master = is.on_master },
-       record { id = is.named; parents = named; root = is.root; tops = is.tops_named })
+      let valid = is.valid in (
+        record { parents = few; depth = valid.shallow; tops = is.few; tops_on_master = is.on_master },
+        record { id = is.named; parents = named; root = is.root; tops = is.tops_named },
+      )
 
   written-placed : (d : Descr) (blocks : List Descr) → IsDescrFit d × IsDescr d → AreWritten blocks → AreWritten (placed d blocks)
   written-placed d blocks is are e h =

@@ -29,8 +29,8 @@ use std::alloc::Global;
 
 /// Whether a pin but this one is on its block.
 fn is_shared(world: &World, row: &PinRow) -> bool
-    ensures { result ≡ list_any (λ r. not (is_pin row.now.worker row.now.pin r) && names_block row.now.block r)
-        world.now.pins }
+    ensures { result ≡ list_any (λ r. not (is_pin row.now.worker row.now.pin r)
+        && names_block row.now.block r) world.now.pins }
 {
     world
         .pins
@@ -41,7 +41,8 @@ fn is_shared(world: &World, row: &PinRow) -> bool
 
 /// Whether another pin is on the block of this one.
 fn shares_block(row: &PinRow, other: &PinRow) -> bool
-    ensures { result ≡ not (is_pin row.now.worker row.now.pin other.now) && names_block row.now.block other.now }
+    ensures { result ≡ not (is_pin row.now.worker row.now.pin other.now)
+        && names_block row.now.block other.now }
 {
     !(other.pin == row.pin && other.worker == row.worker) && is_same_id(&other.block, &row.block)
 }
@@ -84,7 +85,7 @@ pub(crate) fn drop_block<K: Keeper, H: Hash32>(
     ensures reads { (t : ToldWorld) (dead : List Tree) → t.world ≡ world.now
         → Holds K.held H.digest_of t keeper.old
         → (let all = shown t in AreDeadCells H.digest_of all.blocks
-            (map (block_of t) (filter (goes_with t.world row.now) t.world.blocks)) dead)
+        (map (block_of t) (filter (goes_with t.world row.now) t.world.blocks)) dead)
         → K.reads keeper.new ≤ K.reads keeper.old + (4 * length dead + 1) }
 {
     let block = &world.blocks.as_slice()[place];
@@ -128,7 +129,7 @@ fn plan_without<K: Keeper, H: Hash32>(
         → (let all = shown t in AreTogether H.digest_of left.blocks (block ∷ []) all.blocks)
         → rep_bytes H.digest_of block.state ≡ root.now.0
         → (dead : List Tree)
-            × AreCounted H.digest_of (shown t) (shown t) left [] (block ∷ []) [] dead plan) }
+        × AreCounted H.digest_of (shown t) (shown t) left [] (block ∷ []) [] dead plan) }
     ensures keeps { KeepsHeld K.held K.trail K.batches keeper.old keeper.new }
     ensures cause { RisesOnly (is_keeper_fault result) (K.faults keeper.old) (K.faults keeper.new) }
     ensures outside { IsOutsideFault result }

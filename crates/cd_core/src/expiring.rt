@@ -6,7 +6,8 @@ ghost use Rattle.cd_event.specs.declared.event.Event.TheVariants.{Expire};
 ghost use Rattle.cd_event.specs.Replies.{expire_reply};
 ghost use Rattle.cd_event.specs.Turning.{is_keeper, RisesOnly};
 ghost use Rattle.cd_keeper.specs.Keeping.{KeepsHeld, HasKeepCause};
-ghost use Rattle.cd_world.specs.Standing.{kept_at, expired, is_pinned};
+ghost use Rattle.cd_world.specs.Standing.{kept_at, expired};
+ghost use Rattle.cd_block.specs.declared.description.Descr.{Descr};
 ghost use Rattle.cd_world.specs.Machine.{unexpirable, first_missing};
 ghost use Rattle.cd_core.specs.Cores.{IsWritable};
 ghost use Rattle.cd_core.specs.Effects.{Adds};
@@ -35,9 +36,9 @@ impl<K: Keeper, H: Hash32> Core<K, H> {
         ensures cause { RisesOnly (is_keeper (expire_reply result))
             (K.faults self.old.keeper) (K.faults self.new.keeper) }
     {
-        if make_room(&mut self.journal, who).is_err() {
+        let Ok(()) = make_room(&mut self.journal, who) else {
             return Err(ExpireFault::Memory);
-        }
+        };
         let answer =
             expire_by::<K, H>(self.alloc, &mut self.keeper, &mut self.world, who, &id);
         let reply = expire_reply(&answer);
@@ -134,9 +135,7 @@ fn list_passed(alloc: Global, world: &World, master: &Descr) -> Result<Passed, M
         leaving: Vec::new(alloc),
     };
     for block in blocks {
-        if is_expired(master, block) {
-            pass(alloc, &mut passed, world, block)?;
-        }
+        pass(alloc, &mut passed, world, master, block)?;
     }
     Ok(passed)
 }
@@ -168,21 +167,22 @@ fn drop_passed<K: Keeper, H: Hash32>(
     keeper.apply(&batch)
 }
 
-/// Adds a block that expires.
+/// Adds a block, if it expires.
 fn pass(
     alloc: Global,
     passed: &mut Passed,
     world: &World,
+    master: &Descr,
     block: &Descr,
 ) -> Result<(), Memory>
-    ensures gone { is_pinned world.now.pins block.now.id ≡ false → OnOk result (
-        (passed.new.roots.items ≡ passed.old.roots.items ++ block.now.root ∷ [])
-        × (passed.new.gone.items ≡ passed.old.gone.items ++ block.now.id ∷ [])
-        × (passed.new.leaving.items ≡ passed.old.leaving.items)) }
-    ensures left { is_pinned world.now.pins block.now.id ≡ true → OnOk result (
-        (passed.new.roots.items ≡ passed.old.roots.items) × (passed.new.gone.items ≡ passed.old.gone.items)
-        × (passed.new.leaving.items ≡ passed.old.leaving.items ++ (record block.now { leaving = true }) ∷ [])) }
+    ensures { (blocks : List Descr) → ArePassed world.now master.now
+        passed.old.roots.items passed.old.gone.items passed.old.leaving.items blocks
+        → OnOk result (ArePassed world.now master.now
+            passed.new.roots.items passed.new.gone.items passed.new.leaving.items (blocks ++ block.now ∷ [])) }
 {
+    if !is_expired(master, block) {
+        return Ok(());
+    }
     if !is_pinned(world.pins.as_slice(), &block.id) {
         passed.roots.push(block.root)?;
         passed.gone.push(block.id)?;

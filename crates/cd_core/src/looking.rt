@@ -34,21 +34,28 @@ impl<K: Keeper, H: Hash32> Core<K, H> {
     ) -> Result<Vec<Option<Face>>, LookFault>
         requires { length hashes.now ≤ 256 }
         ensures start { self.new.start ≡ self.old.start }
-        ensures adds { Adds K.held H.digest_of self.old.start self.old.journal who (Look pin (length hashes.now))
-            (look_reply result) self.new.journal }
-        ensures cause { RisesOnly (is_keeper (look_reply result)) (K.faults self.old.keeper) (K.faults self.new.keeper) }
+        ensures adds { Adds K.held H.digest_of self.old.start self.old.journal who
+            (Look pin (length hashes.now)) (look_reply result) self.new.journal }
+        ensures cause { RisesOnly (is_keeper (look_reply result))
+            (K.faults self.old.keeper) (K.faults self.new.keeper) }
         ensures reads { K.reads self.new.keeper ≤ K.reads self.old.keeper + length hashes.now }
         ensures found { IfOk result (λ found. length found.items ≡ length hashes.now) }
         ensures good { IfOk result (λ found. AreGood found.items) }
         ensures seen { IfOk result (λ found.
             AreSeen K.held H.digest_of self.old.start self.old.journal hashes.now found.items) }
     {
-        if make_room(&mut self.journal, who).is_err() {
+        let Ok(()) = make_room(&mut self.journal, who) else {
             return Err(LookFault::Memory);
-        }
+        };
         let asked = hashes.len() as u32;
-        let answer =
-            look_under::<K, H>(self.alloc, &mut self.keeper, &self.world, who, pin, hashes);
+        let answer = look_under::<K, H>(
+            self.alloc,
+            &mut self.keeper,
+            &self.world,
+            who,
+            pin,
+            hashes,
+        );
         let reply = look_reply(&answer);
         note(&mut self.journal, who, Event::Look { pin, asked }, reply);
         answer
@@ -65,7 +72,8 @@ fn look_under<K: Keeper, H: Hash32>(
     hashes: &[Hash256],
 ) -> Result<Vec<Option<Face>>, LookFault>
     requires kept { IsWritable world.now }
-    ensures did { (limit : ℕ) → limit ≤ GREATEST_COUNT → Did K.held H.digest_of K.trail {X = H} K.batches K.faults limit world.now keeper.old who
+    ensures did { (limit : ℕ) → limit ≤ GREATEST_COUNT
+        → Did K.held H.digest_of K.trail {X = H} K.batches K.faults limit world.now keeper.old who
         (Look pin (length hashes.now)) (look_reply result) world.now keeper.new }
     ensures reads { K.reads keeper.new ≤ K.reads keeper.old + length hashes.now }
     ensures found { IfOk result (λ found. length found.items ≡ length hashes.now) }
@@ -73,9 +81,9 @@ fn look_under<K: Keeper, H: Hash32>(
     ensures seen { IfOk result (λ found. (t : ToldWorld) → Holds K.held H.digest_of t keeper.old
         → found.items ≡ map (seen H.digest_of t) hashes.now) }
 {
-    if pin_row(world, who.worker, pin).is_none() {
+    let Some(_row) = pin_row(world, who.worker, pin) else {
         return Err(LookFault::NoPin);
-    }
+    };
     match look_all(alloc, keeper, hashes) {
         Ok(found) => Ok(found),
         Err(KeepFault::Failed) => Err(LookFault::Keeper),

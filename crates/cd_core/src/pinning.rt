@@ -12,6 +12,7 @@ ghost use Rattle.cd_core.specs.Steps.{Did};
 
 use crate::body::{Core, make_room, note};
 use crate::replying::pin_reply;
+use cd_base::Memory;
 use cd_block::{BlockId, Descr};
 use cd_cell::{ChildInfo, Hash32, Mask};
 use cd_event::{Event, PinFault, Pinned, Who};
@@ -27,9 +28,9 @@ impl<K: Keeper, H: Hash32> Core<K, H> {
             (pin_reply result) self.new.journal }
         ensures root { IfOk result (IsPinOf K.held H.digest_of self.old.start self.old.journal id) }
     {
-        if make_room(&mut self.journal, who).is_err() {
+        let Ok(()) = make_room(&mut self.journal, who) else {
             return Err(PinFault::Memory);
-        }
+        };
         let answer = begin_pin::<K, H>(&mut self.world, who, &id);
         let reply = pin_reply(&answer);
         note(&mut self.journal, who, Event::Pin { id }, reply);
@@ -56,7 +57,8 @@ fn begin_pin<K: Keeper, H: Hash32>(
 ) -> Result<Pinned, PinFault>
     requires kept { IsWritable world.old }
     requires next { world.old.next + 1 < 2 ^ 64 }
-    ensures did { (limit : ℕ) (k : K) → limit ≤ GREATEST_COUNT → Did K.held H.digest_of K.trail {X = H} K.batches K.faults limit world.old k who
+    ensures did { (limit : ℕ) (k : K) → limit ≤ GREATEST_COUNT
+        → Did K.held H.digest_of K.trail {X = H} K.batches K.faults limit world.old k who
         (Pin id.now) (pin_reply result) world.new k }
     ensures root { IfOk result (λ pinned. (d : Descr) × (kept_at world.old id.now ≡ Some d)
         × (pinned.root ≡ root_info d)) }
@@ -74,9 +76,11 @@ fn begin_pin<K: Keeper, H: Hash32>(
         worker: who.worker,
         block: *id,
     };
-    if world.pins.push(row).is_err() {
-        return Err(PinFault::Memory);
+    match world.pins.push(row) {
+        Ok(()) => {
+            world.next = pin + 1;
+            Ok(Pinned { pin, root })
+        }
+        Err(Memory) => Err(PinFault::Memory),
     }
-    world.next = pin + 1;
-    Ok(Pinned { pin, root })
 }

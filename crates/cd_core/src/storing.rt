@@ -44,9 +44,9 @@ impl<K: Keeper, H: Hash32> Core<K, H> {
             (K.faults self.old.keeper) (K.faults self.new.keeper) }
         ensures reads { K.reads self.new.keeper ≤ K.reads self.old.keeper + (5 * length prepared.cells + 1) }
     {
-        if make_room(&mut self.journal, who).is_err() {
+        let Ok(()) = make_room(&mut self.journal, who) else {
             return Err(ZeroFault::Memory);
-        }
+        };
         let limit = self.start.limit;
         let answer = store_zero::<K, H>(
             self.alloc,

@@ -37,11 +37,10 @@ impl<K: Keeper, H: Hash32> Core<K, H> {
             → AreCollected H.digest_of (told_replay H.digest_of t self.old.journal) who.worker pin dead
             → K.reads self.new.keeper ≤ K.reads self.old.keeper + (4 * length dead + 1)) }
     {
-        if make_room(&mut self.journal, who).is_err() {
+        let Ok(()) = make_room(&mut self.journal, who) else {
             return Err(UnpinFault::Memory);
-        }
-        let answer =
-            end_pin::<K, H>(self.alloc, &mut self.keeper, &mut self.world, who, pin);
+        };
+        let answer = end_pin::<K, H>(self.alloc, &mut self.keeper, &mut self.world, who, pin);
         let reply = unpin_reply(&answer);
         note(&mut self.journal, who, Event::Unpin { pin }, reply);
         answer
@@ -59,10 +58,11 @@ fn end_pin<K: Keeper, H: Hash32>(
     requires kept { IsWritable world.old }
     ensures did { (limit : ℕ) → limit ≤ GREATEST_COUNT
         → Did K.held H.digest_of K.trail {X = H} K.batches K.faults limit world.old keeper.old who
-            (Unpin pin) (unpin_reply result) world.new keeper.new }
+        (Unpin pin) (unpin_reply result) world.new keeper.new }
     ensures quiet { is_pin_collected world.old (pin_at world.old who.worker pin) ≡ false
         → K.reads keeper.new ≡ K.reads keeper.old }
-    ensures reads { (t : ToldWorld) (dead : List Tree) → t.world ≡ world.old → Holds K.held H.digest_of t keeper.old
+    ensures reads { (t : ToldWorld) (dead : List Tree) → t.world ≡ world.old
+        → Holds K.held H.digest_of t keeper.old
         → AreCollected H.digest_of t who.worker pin dead
         → K.reads keeper.new ≤ K.reads keeper.old + (4 * length dead + 1) }
 {
@@ -70,14 +70,18 @@ fn end_pin<K: Keeper, H: Hash32>(
         return Err(UnpinFault::NoPin);
     };
     let row = *row;
-    if let Some(place) = collected_place(world, &row) {
-        if let Err(fault) = drop_block::<K, H>(alloc, keeper, world, &row, place) {
-            return Err(fault);
+    match collected_place(world, &row) {
+        None => {
+            world.pins.drop_pin(row.worker, row.pin);
+            Ok(false)
         }
-        world.blocks.remove(place);
-        world.pins.drop_pin(row.worker, row.pin);
-        return Ok(true);
+        Some(place) => match drop_block::<K, H>(alloc, keeper, world, &row, place) {
+            Ok(()) => {
+                world.blocks.remove(place);
+                world.pins.drop_pin(row.worker, row.pin);
+                Ok(true)
+            }
+            Err(fault) => Err(fault),
+        },
     }
-    world.pins.drop_pin(row.worker, row.pin);
-    Ok(false)
 }
