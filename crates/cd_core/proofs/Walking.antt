@@ -58,7 +58,6 @@ module _ {X : Type 0} where
   pub table-in_order : (m : FinMap byte_cmp X) → AreInOrder (entries m)
   table-in_order m = order-sorted (entries m) (true_of _ (finite.entries_sorted m))
 
-
 filter-each : {A : Type 0} (p : A → Bool) (xs : List A) → ((x : A) → Contains xs x → p x ≡ true) → filter p xs ≡ xs
 filter-each p [] each = refl
 filter-each p (x ∷ xs) each =
@@ -122,4 +121,3 @@ next-none m after is = ended (finite.entries m) after is
 pub above-all : (es : List Entry) → above None es ≡ es
 above-all [] = refl
 above-all (e ∷ es) = ap (λ ys. e ∷ ys) (above-all es)
-

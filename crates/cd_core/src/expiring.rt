@@ -39,8 +39,7 @@ impl<K: Keeper, H: Hash32> Core<K, H> {
         let Ok(()) = make_room(&mut self.journal, who) else {
             return Err(ExpireFault::Memory);
         };
-        let answer =
-            expire_by::<K, H>(self.alloc, &mut self.keeper, &mut self.world, who, &id);
+        let answer = expire_by::<K, H>(self.alloc, &mut self.keeper, &mut self.world, who, &id);
         let reply = expire_reply(&answer);
         note(&mut self.journal, who, Event::Expire { id }, reply);
         answer
@@ -67,7 +66,7 @@ fn expire_by<K: Keeper, H: Hash32>(
     requires kept { IsWritable world.old }
     ensures did { (limit : ℕ) → limit ≤ GREATEST_COUNT
         → Did K.held H.digest_of K.trail {X = H} K.batches K.faults limit world.old keeper.old who
-            (Expire id.now) (expire_reply result) world.new keeper.new }
+        (Expire id.now) (expire_reply result) world.new keeper.new }
 {
     let master = match master_at(alloc, world, id) {
         Ok(master) => master,
@@ -178,7 +177,7 @@ fn pass(
     ensures { (blocks : List Descr) → ArePassed world.now master.now
         passed.old.roots.items passed.old.gone.items passed.old.leaving.items blocks
         → OnOk result (ArePassed world.now master.now
-            passed.new.roots.items passed.new.gone.items passed.new.leaving.items (blocks ++ block.now ∷ [])) }
+        passed.new.roots.items passed.new.gone.items passed.new.leaving.items (blocks ++ block.now ∷ [])) }
 {
     if !is_expired(master, block) {
         return Ok(());

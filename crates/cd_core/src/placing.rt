@@ -138,13 +138,13 @@ pub(crate) fn plan_state<K: Keeper, H: Hash32>(
     ensures judged { (t : ToldWorld) → t.world ≡ world.now → Holds K.held H.digest_of t keeper.old
         → Fits H.digest_of prepared.now.root prepared.now.cells (map t.state parents.now)
         → IsJudged (storing_refusal H.digest_of limit t
-            (with_stored H.digest_of t id.now parents.now tops.now prepared.now) prepared.now.cells) result }
+        (with_stored H.digest_of t id.now parents.now tops.now prepared.now) prepared.now.cells) result }
     ensures planned { IfOk result (λ plan. (t : ToldWorld) → t.world ≡ world.now
         → Holds K.held H.digest_of t keeper.old
         → Fits H.digest_of prepared.now.root prepared.now.cells (map t.state parents.now)
         → let v = with_stored H.digest_of t id.now parents.now tops.now prepared.now in
         (news : List Tree) × AreAdded H.digest_of (shown t) (shown v)
-            (block_of v (stored id.now parents.now tops.now prepared.now) ∷ []) news plan) }
+        (block_of v (stored id.now parents.now tops.now prepared.now) ∷ []) news plan) }
     ensures keeps { KeepsHeld K.held K.trail K.batches keeper.old keeper.new }
     ensures reads { K.reads keeper.new ≤ K.reads keeper.old + (5 * length prepared.now.cells + 1) }
     ensures cause { HasCountCause (K.faults keeper.old) (K.faults keeper.new) result }
@@ -189,12 +189,7 @@ pub(crate) fn store_block<K: Keeper>(
 }
 
 /// The batch of a plan that puts one description and drops some.
-fn batch_with(
-    alloc: Global,
-    plan: Plan,
-    descr: &Descr,
-    gone: Vec<BlockId>,
-) -> Result<Batch, Memory>
+fn batch_with(alloc: Global, plan: Plan, descr: &Descr, gone: Vec<BlockId>) -> Result<Batch, Memory>
     requires fit { IsDescrFit descr.now }
     requires once { IsDistinct same_key (map key_of gone.items ++ key_of descr.now.id ∷ []) }
     ensures cells { IfOk result (λ batch. IsCellBatch plan batch) }

@@ -59,7 +59,12 @@ impl<K: Keeper, H: Hash32> Core<K, H> {
             &prepared,
         );
         let reply = zero_reply(&answer);
-        note(&mut self.journal, who, Event::Zero { id, tops, prepared }, reply);
+        note(
+            &mut self.journal,
+            who,
+            Event::Zero { id, tops, prepared },
+            reply,
+        );
         answer
     }
 }
@@ -102,11 +107,7 @@ fn store_zero<K: Keeper, H: Hash32>(
 }
 
 /// Why the world refuses a zero state.
-fn zero_refusal<H: Hash32>(
-    world: &World,
-    id: &BlockId,
-    prepared: &Prepared<H>,
-) -> Option<ZeroFault>
+fn zero_refusal<H: Hash32>(world: &World, id: &BlockId, prepared: &Prepared<H>) -> Option<ZeroFault>
     ensures refusal { option_and_then replies.zero_refusal result
         ≡ option_or (known world.now id.now) (option_or (unrelated id.now []) (other_root id.now prepared.now)) }
     ensures kind { IfSome result IsOfWorld }

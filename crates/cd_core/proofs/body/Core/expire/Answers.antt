@@ -30,4 +30,3 @@ returns-clause-adds g c =
     subst (λ (v : CoreView g.row.K.Denot g.row.H.Denot). Adds k.held g.H.Hash32.digest_of v.start v.journal c.args.who (Expire c.args.id) (expire_reply c.expire_by-answer.result) c.note.new.journal) c.self.view_is
     (adds-step k.held g.H.Hash32.digest_of k.trail k.batches k.faults start es c.note.new.journal c.self.inside.world c.expire_by-answer.new.world c.self.inside.keeper c.expire_by-answer.new.keeper c.args.who (Expire c.args.id) (expire_reply c.expire_by-answer.result)
     c.self.invariant.0 c.self.invariant.1 (c.expire_by-answer.ensures.did start.limit core.limited.1) noted)
-
