@@ -16,6 +16,5 @@ pub mod Planned
 pub mod Stores
 pub mod Totals
 pub mod Unpinned
-pub mod Walking
 pub mod Writable
 pub mod ZeroDid

@@ -5,7 +5,7 @@ use Rattle.std.specs.Prelude.{min, ◌&&◌, IfSome, Result, Ok, Err}
 use lib.Dec.{T}
 use Rattle.std.proofs.lemmas.List.Sums.{sum_by-cons}
 use Rattle.cd_core.proofs.Unpinned.{of-some}
-use Rattle.cd_core.proofs.Walking.{next-some, next-none, above-all}
+use Rattle.cd_world.proofs.Walks.{next-some, next-none, above-all}
 use Rattle.std.specs.Option.{option_map, option_and_then}
 use Rattle.std.specs.Ordering.{nat_cmp, eq_by_cmp, is_lt}
 use Rattle.std.specs.Cmp.Lexicographic.{slice_cmp, nat_list_cmp_total}
@@ -31,7 +31,8 @@ use Rattle.cd_count.specs.SoundContents.{AreSoundContents}
 use Rattle.cd_count.proofs.Readable.{readable}
 use Rattle.cd_core.specs.Cores.{Holds}
 use Rattle.cd_core.specs.Effects.{at_most_last}
-use Rattle.cd_core.specs.Totalling.{count_read, count_in, sum_in, above, AreSoFar, AreSums}
+use Rattle.cd_core.specs.Totalling.{count_read, count_in, sum_in, AreSoFar, AreSums}
+use Rattle.cd_world.specs.Walks.{above}
 
 -- ---- numbers by their keys
 

@@ -1,15 +1,11 @@
 -- Inner: the records of a table added up, while they are gone over.
-use Rattle.std.specs.Prelude.{◌≡◌, ℕ, ◌+◌, ◌^◌, ◌<◌, List, length, filter, Option, Result, Ok, Err}
+use Rattle.std.specs.Prelude.{◌≡◌, ℕ, ◌+◌, ◌^◌, ◌<◌, List, length, Option, Result, Ok, Err}
 use Rattle.std.specs.List.{sum_by}
-use Rattle.cd_keeper.specs.Contents.{is_above}
 use Rattle.cd_record.specs.declared.record.Record.{Record}
 use Rattle.cd_record.specs.declared.record_fault.RecordFault.{RecordFault}
 use Rattle.cd_record.specs.RecordReading.{record_in}
+use Rattle.cd_world.specs.Walks.{above}
 use Rattle.cd_core.specs.Effects.{at_most_last}
-
--- the entries that are left above a key
-abbrev pub above : Option (List ℕ) → List (List ℕ × List ℕ) → List (List ℕ × List ℕ)
-above after es = filter (λ e. is_above after e.0) es
 
 abbrev pub count_read : Result Record RecordFault → ℕ
 count_read (Ok r) = r.count

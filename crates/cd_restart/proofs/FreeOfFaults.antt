@@ -24,7 +24,7 @@ use Rattle.cd_restart.specs.Lists.{first_of}
 use Rattle.cd_restart.specs.Stored.{Entry, Stored, read_descr, read_cell, descr_of, cell_of, blocks_in, cells_in, IsDescEntry, IsCellEntry, AreBytes}
 use Rattle.cd_restart.specs.ScanFaults.{desc_fault, lineage_refusal, record_fault, key_fault, missing_fault, kid_fault, root_fault, depth_fault, count_fault, cells_fault, kids_fault, roots_fault, scan_fault}
 use Rattle.cd_restart.proofs.Faults.{neither}
-use Rattle.cd_restart.proofs.Tables.{byte_cmp, by_key, table-in_order}
+use Rattle.cd_world.proofs.Tables.{byte_cmp, by_key, table-in_order}
 use Rattle.cd_restart.proofs.ReadLists.{told-of, of-told, rises-told}
 use Rattle.cd_restart.proofs.UnfoldedCells.{hash_of}
 

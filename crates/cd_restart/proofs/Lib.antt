@@ -1,4 +1,3 @@
-pub mod Tables
 pub mod Faults
 pub mod ReadLists
 pub mod UnfoldedCells
@@ -9,7 +8,7 @@ pub mod SoundStores
 pub mod PlainInfos
 pub mod RowLists
 pub mod Loops
-pub mod Walking
+pub mod ToldContents
 pub mod NextEntries
 pub mod PassSteps
 pub mod OpenedStores

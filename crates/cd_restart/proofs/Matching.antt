@@ -19,7 +19,7 @@ use Rattle.cd_world.specs.Told.{ToldWorld, block_of, held, count}
 use Rattle.cd_world.proofs.CountLaws.{sum_by-map}
 use Rattle.cd_restart.specs.Stored.{Stored}
 use Rattle.cd_restart.specs.ScanFaults.{places_in, references}
-use Rattle.cd_restart.proofs.Tables.{byte_cmp, by_key, by_key-total, table-in_order, table-get, table-got, rises-map}
+use Rattle.cd_world.proofs.Tables.{byte_cmp, by_key, by_key-total, table-in_order, table-get, table-got, rises-map}
 
 -- ---- sums
 

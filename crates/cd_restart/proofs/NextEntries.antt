@@ -18,8 +18,9 @@ use Rattle.cd_restart.specs.Answers.{of_descr, Refuses, IsCaused}
 use Rattle.cd_restart.specs.Lists.{first_of}
 use Rattle.cd_restart.specs.Stored.{read_cell, read_descr}
 use Rattle.cd_restart.specs.ScanFaults.{unrecorded, undescribed, record_fault, desc_fault}
-use Rattle.cd_restart.specs.Walks.{above, IsCellNext, IsBlockNext}
-use Rattle.cd_restart.proofs.Walking.{next-some}
+use Rattle.cd_restart.specs.Walks.{IsCellNext, IsBlockNext}
+use Rattle.cd_world.specs.Walks.{above}
+use Rattle.cd_world.proofs.Walks.{next-some}
 
 module _ (m : Table) (after : Option (List ℕ)) where
   pub cell-next : (hash : Hash256) (bytes : List ℕ) (r : Record) → next_entry m after ≡ Some (hash.0, bytes) → record_in bytes ≡ Ok r → IsBytes bytes → IsCellNext (finite.entries m) after (hash, r)

@@ -31,7 +31,7 @@ use Rattle.std.proofs.Common.{eqb}
 use Rattle.cd_restart.proofs.Matching.{sum_by-each, faces-match, counts-match}
 use Rattle.cd_restart.proofs.SoundStores.{no_scan_fault}
 use Rattle.cd_restart.proofs.StoredWorlds as stored
-use Rattle.cd_restart.proofs.Walking.{if_some-map, if_some-both}
+use Rattle.cd_restart.proofs.ToldContents.{if_some-map, if_some-both}
 
 -- ---- counts
 

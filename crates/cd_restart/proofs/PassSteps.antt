@@ -14,10 +14,11 @@ use Rattle.cd_restart.specs.RowView.{RowView}
 use Rattle.cd_restart.specs.Rows.{row_after, rows_of, kid_references, AreRowsOf}
 use Rattle.cd_restart.specs.ScanFaults.{desc_fault, record_fault, key_fault, missing_fault, kid_fault, cells_fault, kids_fault}
 use Rattle.cd_restart.specs.Stored.{Entry, Stored, descr_of, cell_of, IsDescEntry, IsCellEntry}
-use Rattle.cd_restart.specs.Walks.{above, IsCellNext, IsBlockNext, AreBlocksRead, AreCellsRead, AreKidsRead}
+use Rattle.cd_restart.specs.Walks.{IsCellNext, IsBlockNext, AreBlocksRead, AreCellsRead, AreKidsRead}
+use Rattle.cd_world.specs.Walks.{above}
 use Rattle.cd_restart.proofs.Faults.{or-assoc}
 use Rattle.cd_restart.proofs.Loops.{refused}
-use Rattle.cd_restart.proofs.Walking.{above-all}
+use Rattle.cd_world.proofs.Walks.{above-all}
 
 or_nothing : {F : Type 0} (o : Option F) → option_or o None ≡ o
 or_nothing None = refl

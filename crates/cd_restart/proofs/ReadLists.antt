@@ -22,7 +22,7 @@ use Rattle.cd_world.proofs.Held.{same_bytes, bytes_tie}
 use Rattle.cd_restart.specs.Lists.{first_of}
 use Rattle.cd_restart.specs.Stored.{Entry, Stored, read_cell, cell_of, cells_in}
 use Rattle.cd_restart.specs.ScanFaults.{unrecorded, record_fault, record_at}
-use Rattle.cd_restart.proofs.Tables.{byte_cmp}
+use Rattle.cd_world.proofs.Tables.{byte_cmp}
 use Rattle.cd_restart.proofs.Faults.{neither}
 
 -- ---- a filter that drops nothing

@@ -24,7 +24,7 @@ use Rattle.cd_restart.specs.RowView.{RowView}
 use Rattle.cd_restart.specs.Rows.{row_after, rows_of, row_at, AreRising, IsPlaceOf, AreRowsOf, IsRowOf}
 use Rattle.cd_restart.specs.ScanFaults.{record_at}
 use Rattle.cd_restart.specs.Stored.{Stored}
-use Rattle.cd_restart.proofs.Tables.{byte_cmp, not_before_itself, rises-map, rises-unmap}
+use Rattle.cd_world.proofs.Tables.{byte_cmp, not_before_itself, rises-map, rises-unmap}
 
 -- ---- hashes
 

@@ -52,7 +52,7 @@ use Rattle.cd_restart.proofs.Faults.{or_none, no_refusal, first_of-clear}
 use Rattle.cd_restart.proofs.FreeOfFaults.{descr-read, cell-read, blocks-rise, cells-rise}
 use Rattle.cd_restart.proofs.Matching.{AreHeld, counts-match}
 use Rattle.cd_restart.proofs.ReadLists.{is_read, told-of, of-told, record-under, stored-at}
-use Rattle.cd_restart.proofs.Tables.{byte_cmp, by_key, AreInOrder, table-get, table-got, found-entry, entry-found, rises-map}
+use Rattle.cd_world.proofs.Tables.{byte_cmp, by_key, AreInOrder, table-get, table-got, found-entry, entry-found, rises-map}
 use Rattle.cd_restart.proofs.UnfoldedCells.{hash_of}
 
 -- a record of the second version is none of the first

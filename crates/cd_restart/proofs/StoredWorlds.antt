@@ -28,7 +28,7 @@ use Rattle.cd_record.proofs.RecordLaws as records
 use Rattle.cd_world.specs.World as trees
 use Rattle.cd_world.specs.Image.{is_version_1, renewed, plain_record, plain_cells, descr_entry, image_of, IsContentsOf}
 use Rattle.cd_world.proofs.Plain.{plain_record-text, get-plain_cells, record_value, image-cell}
-use Rattle.cd_restart.proofs.Tables.{byte_cmp, by_key, by_key-total, AreInOrder, table-in_order, table-get, table-got, rises-map}
+use Rattle.cd_world.proofs.Tables.{byte_cmp, by_key, by_key-total, AreInOrder, table-in_order, table-get, table-got, rises-map}
 use Rattle.cd_cell.specs.declared.info.ChildInfo.{ChildInfo}
 use Rattle.cd_cell.specs.Equality.{same_hash, same_hash-Decides, same_info-Decides}
 use Rattle.cd_cell.specs.Export.{AreClashFree}

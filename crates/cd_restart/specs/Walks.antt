@@ -1,11 +1,11 @@
 -- Inner: going over a table's entries in the order of their keys, by the key that was met last.
-use Rattle.std.specs.Prelude.{◌≡◌, ℕ, List, [], ◌∷◌, ◌++◌, filter, Option, Some, None, Result, Ok, Err}
+use Rattle.std.specs.Prelude.{◌≡◌, ℕ, List, [], ◌∷◌, ◌++◌, Option, Some, None, Result, Ok, Err}
 use Rattle.std.specs.List.{filter_map, AllByRecursion}
 use Rattle.std.specs.Option.{option_or}
 use Rattle.cd_base.specs.declared.hash.Hash256.{Hash256}
 use Rattle.cd_block.specs.declared.description.Descr.{Descr}
 use Rattle.cd_block.specs.Block.{key_of}
-use Rattle.cd_keeper.specs.Contents.{is_above}
+use Rattle.cd_world.specs.Walks.{above}
 use Rattle.cd_restart.specs.declared.scan_fault.ScanFault.{ScanFault}
 use Rattle.cd_restart.specs.Lists.{first_of}
 use Rattle.cd_restart.specs.RowView.{RowView}
@@ -13,10 +13,6 @@ use Rattle.cd_restart.specs.Rows.{rows_of, kid_references, AreRowsOf}
 use Rattle.cd_restart.specs.ScanFaults.{desc_fault, record_fault, key_fault, missing_fault, kid_fault}
 use Rattle.cd_restart.specs.Stored.{Entry, Stored, descr_of, cell_of, IsDescEntry, IsCellEntry}
 use Rattle.cd_restart.specs.Answers.{Refuses}
-
--- the entries that are left above a key
-abbrev pub above : Option (List ℕ) → List Entry → List Entry
-above after es = filter (λ e. is_above after e.0) es
 
 -- the next entry above a key, that of a cell
 pub record IsCellNext (es : List Entry) (after : Option (List ℕ)) (c : Stored) : Type 0 where

@@ -15,3 +15,5 @@ pub mod BesideHeld
 pub mod SoundWorlds
 pub mod OldInfos
 pub mod UnfoldedTrees
+pub mod Tables
+pub mod Walks

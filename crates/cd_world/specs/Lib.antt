@@ -15,3 +15,4 @@ pub mod Pinning
 pub mod Fitting
 pub mod Soundness
 pub mod Preparing
+pub mod Walks

@@ -9,7 +9,7 @@ use Rattle.cd_restart.specs.Rows.{AreRowsOf, kid_references}
 use Rattle.cd_restart.specs.ScanFaults.{record_fault, row_fault, count_fault, kids_fault, counted_fault}
 use Rattle.cd_restart.specs.Stored.{cells_in}
 use Rattle.cd_restart.proofs.OpenedStores.{rows-faults}
-use Rattle.cd_restart.proofs.Walking.{if_some-both}
+use Rattle.cd_restart.proofs.ToldContents.{if_some-both}
 use Rattle.cd_restart.proofs.opening.check_cells.Goals as goal
 
 pub returns-clause-answers : goal.returns-clause-answers

@@ -16,7 +16,7 @@ use Rattle.cd_restart.specs.Stored.{Stored, cells_in}
 use Rattle.cd_restart.specs.Walks.{IsNext, IsCellNext, AreKidsRead}
 use Rattle.cd_restart.proofs.Loops.{own-or}
 use Rattle.cd_restart.proofs.PassSteps.{kids-start, kids-more}
-use Rattle.cd_restart.proofs.Walking.{if_some-all, if_some-both}
+use Rattle.cd_restart.proofs.ToldContents.{if_some-all, if_some-both}
 use Rattle.cd_restart.proofs.passes.check_kids.Goals as goal
 
 pub reading-init : goal.reading-init

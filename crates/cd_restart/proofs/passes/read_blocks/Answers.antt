@@ -5,7 +5,7 @@ use Rattle.cd_keeper.specs.Contents.{Contents}
 use Rattle.cd_restart.specs.ScanFaults.{desc_fault}
 use Rattle.cd_restart.specs.Walks.{IsNext, IsBlockNext, AreBlocksRead}
 use Rattle.cd_restart.proofs.PassSteps.{blocks-start, blocks-more}
-use Rattle.cd_restart.proofs.Walking.{if_some-all, if_some-both}
+use Rattle.cd_restart.proofs.ToldContents.{if_some-all, if_some-both}
 use Rattle.cd_restart.proofs.passes.read_blocks.Goals as goal
 
 pub reading-init : goal.reading-init

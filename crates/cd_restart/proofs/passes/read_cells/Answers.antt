@@ -20,7 +20,7 @@ use Rattle.cd_restart.specs.Answers.{IsOwn}
 use Rattle.cd_restart.specs.declared.scan_fault.ScanFault.TheVariants as refusal
 use Rattle.cd_restart.proofs.FreeOfFaults.{cells-rise}
 use Rattle.cd_restart.proofs.Loops.{own-or}
-use Rattle.cd_restart.proofs.Walking.{if_some-all, if_some-both}
+use Rattle.cd_restart.proofs.ToldContents.{if_some-all, if_some-both}
 use Rattle.cd_restart.proofs.passes.read_cells.Goals as goal
 
 pub reading-init : goal.reading-init

@@ -9,8 +9,10 @@ use Rattle.cd_keeper.specs.Shown.{entry_of, desc_bytes}
 use Rattle.cd_restart.specs.Answers.{Refuses}
 use Rattle.cd_restart.specs.Lists.{first_of}
 use Rattle.cd_restart.specs.ScanFaults.{desc_fault}
-use Rattle.cd_restart.specs.Walks.{above, IsBlockNext}
-use Rattle.cd_restart.proofs.Walking.{if_some-map, next-none}
+use Rattle.cd_restart.specs.Walks.{IsBlockNext}
+use Rattle.cd_world.specs.Walks.{above}
+use Rattle.cd_world.proofs.Walks.{next-none}
+use Rattle.cd_restart.proofs.ToldContents.{if_some-map}
 use Rattle.cd_restart.proofs.NextEntries.{block-next, block-refuses}
 use Rattle.cd_restart.proofs.reading.next_block.Goals as goal
 

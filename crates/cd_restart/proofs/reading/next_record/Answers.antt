@@ -8,8 +8,10 @@ use Rattle.cd_record.specs.RecordReading.{record_in}
 use Rattle.cd_restart.specs.declared.scan_fault.ScanFault.TheVariants as refusal
 use Rattle.cd_restart.specs.Lists.{first_of}
 use Rattle.cd_restart.specs.ScanFaults.{record_fault}
-use Rattle.cd_restart.specs.Walks.{above, IsCellNext}
-use Rattle.cd_restart.proofs.Walking.{if_some-map, next-none}
+use Rattle.cd_restart.specs.Walks.{IsCellNext}
+use Rattle.cd_world.specs.Walks.{above}
+use Rattle.cd_world.proofs.Walks.{next-none}
+use Rattle.cd_restart.proofs.ToldContents.{if_some-map}
 use Rattle.cd_restart.proofs.NextEntries.{cell-next, cell-refused}
 use Rattle.cd_restart.proofs.reading.next_record.Goals as goal
 

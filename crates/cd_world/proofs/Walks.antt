@@ -1,24 +1,17 @@
 -- Going over a table: the entry that is met next is the first of those that are left.
 use Rattle.std.proofs.Common.{◌≡◌, ℕ, Bool, true, false, cond, List, [], ◌∷◌, filter, Option, Some, None, Contains, Less, refl, sym, ap, ◌∙◌, subst}
-use Rattle.std.specs.Prelude.{find, IfSome}
+use Rattle.std.specs.Prelude.{find}
 use Rattle.std.specs.Ordering.{is_lt}
 use Rattle.std.specs.Cmp.Lexicographic.{nat_list_cmp_total}
 use Rattle.std.specs.FinMap as finite
 use Rattle.std.proofs.lemmas.Option.{none-some, same_Some}
 use Rattle.cd_cell.proofs.Subtrees.{Contains-first, Contains-later}
 use Rattle.cd_keeper.specs.Contents.{Table, is_above, next_entry}
-use Rattle.cd_restart.specs.Stored.{Entry}
-use Rattle.cd_restart.specs.Walks.{above}
-use Rattle.cd_restart.proofs.Tables.{byte_cmp, AreInOrder, table-in_order, less_of, is_less, not_before_itself, one_way}
+use Rattle.cd_world.specs.Walks.{above}
+use Rattle.cd_world.proofs.Tables.{byte_cmp, AreInOrder, table-in_order, less_of, is_less, not_before_itself, one_way}
 
--- what holds of told contents, by what holds of them
-pub if_some-map : {A : Type 0} (P Q : A → Type 0) (o : Option A) → IfSome o P → ((x : A) → P x → Q x) → IfSome o Q
-if_some-map P Q None p f = tt
-if_some-map P Q (Some x) p f = f x p
-
-pub if_some-both : {A : Type 0} (P Q R : A → Type 0) (o : Option A) → IfSome o P → IfSome o Q → ((x : A) → P x → Q x → R x) → IfSome o R
-if_some-both P Q R None p q f = tt
-if_some-both P Q R (Some x) p q f = f x p q
+abbrev Entry : Type 0
+Entry = List ℕ × List ℕ
 
 filter-each : {A : Type 0} (p : A → Bool) (xs : List A) → ((x : A) → Contains xs x → p x ≡ true) → filter p xs ≡ xs
 filter-each p [] each = refl
@@ -83,7 +76,3 @@ next-none m after is = ended (finite.entries m) after is
 pub above-all : (es : List Entry) → above None es ≡ es
 above-all [] = refl
 above-all (e ∷ es) = ap (λ ys. e ∷ ys) (above-all es)
-
-pub if_some-all : {A : Type 0} (P : A → Type 0) (o : Option A) → ((x : A) → P x) → IfSome o P
-if_some-all P None f = tt
-if_some-all P (Some x) f = f x
