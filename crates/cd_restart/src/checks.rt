@@ -71,7 +71,8 @@ pub fn check_kids_of(
     rows: &mut [Row],
 ) -> Result<Option<ScanFault>, ScanFault>
     ensures answers { (H : List ℕ → Hash256) (cells : List Stored) (hashes : List Hash256)
-        → AreRowsOf H cells hashes rows.old → Answers (first_of (faults.missing_kid H cells parent.now) kids.now) result }
+        → AreRowsOf H cells hashes rows.old
+        → Answers (first_of (faults.missing_kid H cells parent.now) kids.now) result }
     ensures other { IfOk result (λ other. (H : List ℕ → Hash256) (cells : List Stored) (hashes : List Hash256)
         → AreRowsOf H cells hashes rows.old → other ≡ first_of (faults.other_kid H cells parent.now) kids.now) }
     ensures counted { OnOk result ((H : List ℕ → Hash256) (cells : List Stored) (hashes : List Hash256)

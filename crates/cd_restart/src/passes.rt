@@ -26,7 +26,8 @@ use std::alloc::Global;
 pub fn read_blocks<K: Keeper>(alloc: Global, keeper: &mut K) -> Result<Vec<Descr>, ScanFault>
     ensures answers { IfSome (K.held keeper.old) (λ contents.
         Answers (first_of faults.desc_fault (finite.entries contents.descs)) result) }
-    ensures blocks { IfOk result (λ blocks. IfSome (K.held keeper.old) (λ contents. blocks.items ≡ blocks_in contents)) }
+    ensures blocks { IfOk result (λ blocks. IfSome (K.held keeper.old)
+        (λ contents. blocks.items ≡ blocks_in contents)) }
     ensures fit { OnOk result (IfSome (K.held keeper.old)
         (λ contents. AllByRecursion IsDescEntry (finite.entries contents.descs))) }
     ensures keeps { KeepsHeld K.held K.trail K.batches keeper.old keeper.new }

@@ -114,18 +114,21 @@ impl Row {
         })
     }
 
+    /// The cell's hash.
     pub fn hash(&self) -> Hash256
         ensures { result ≡ self.now.hash }
     {
         self.hash
     }
 
+    /// The stored count.
     pub fn stored(&self) -> u64
         ensures { result ≡ self.now.stored }
     {
         self.stored
     }
 
+    /// The references that were counted so far.
     pub fn counted(&self) -> u64
         ensures { result ≡ self.now.counted }
     {
@@ -139,12 +142,14 @@ impl Row {
         self.shown.is(kid)
     }
 
+    /// The cell's mask.
     pub fn mask(&self) -> Mask
         ensures { result ≡ self.now.shown.mask }
     {
         self.shown.mask()
     }
 
+    /// The cell's depth at level 3.
     pub fn height(&self) -> u16
         ensures { result ≡ height_of_info self.now.shown }
     {
