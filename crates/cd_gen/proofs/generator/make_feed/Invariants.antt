@@ -8,5 +8,5 @@ invariant-loop-seqno l = record {
   number : l.chains.number ≡ l.n;
   left : l.chains.left.seqno + 1 ≡ l.seqno;
   right : l.chains.right.seqno + 1 ≡ l.seqno;
-  master : l.seqno ≤ 66 → l.chains.master.seqno + 1 ≡ l.seqno
+  master : l.seqno ≤ 66 → l.chains.master.seqno + 1 ≡ l.seqno;
 }
