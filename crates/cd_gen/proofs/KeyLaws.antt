@@ -1,5 +1,5 @@
 -- Laws of keys: sorted, and the first of those of equal place.
-use Rattle.std.proofs.Common.{◌≡◌, ℕ, zero, suc, Bool, true, false, ◌&&◌, nat_eq, ◌+◌, ◌<◌, ◌≤◌, List, [], ◌∷◌, length, get_or, Contains, Less, Equal, Greater, Ordering, IsPermutation, IsSorted, nat_cmp, refl, sym, ap, ap₂, subst, ◌∙◌, ⊎_elim, cond, arith}
+use Rattle.std.proofs.Common.{◌≡◌, ℕ, suc, Bool, true, false, ◌&&◌, nat_eq, ◌+◌, ◌<◌, ◌≤◌, List, [], ◌∷◌, length, get_or, Contains, Less, Equal, Greater, Ordering, IsPermutation, IsSorted, nat_cmp, refl, sym, ap, ap₂, subst, ◌∙◌, ⊎_elim, cond, arith}
 use Rattle.std.specs.Bool.{Decides}
 use Rattle.std.specs.Ordering.{is_eq, is_lt, ordering_then}
 use Rattle.std.specs.List.{dedup, dedup_from, AllByRecursion}

@@ -15,12 +15,12 @@ use Rattle.cd_cell.specs.FaceView.{FaceView}
 use Rattle.cd_cell.specs.GoodFace.{IsGoodFace}
 use Rattle.cd_cell.specs.Infos.{no_hash, rep_of_info, height_of_info}
 use Rattle.cd_cell.specs.Levels.{info_of_face, rep_of_face, height_of_face}
-use Rattle.cd_cell.specs.Tree.{Tree, Trees, cell, subtrees, face_of, rep_of, height_of}
+use Rattle.cd_cell.specs.Tree.{Tree, cell, subtrees, face_of, rep_of, height_of}
 use Rattle.cd_cell.specs.Export.{hash_cmp, export_cmp, with_distinct, sorted_distinct, AreDistinct, distinct_cells}
 use Rattle.cd_cell.specs.Listings.{no_cell, listed_at, listing_cmp, new_cell_of}
 use Rattle.cd_cell.proofs.Subtrees.{Contains-first, Contains-later, Contains-cases, Contains-nil, Contains-map, Contains-mapped}
 use Rattle.cd_cell.proofs.ExportOrder.{hash_cmp-total}
-use Rattle.cd_cell.proofs.Distinct.{AllPairs-from_rises, rises-from_AllPairs, AreDistinct-sorted_distinct, same-rising, one_place-rising}
+use Rattle.cd_cell.proofs.Distinct.{rises-from_AllPairs, AreDistinct-sorted_distinct, same-rising, one_place-rising}
 use Rattle.cd_gen.specs.declared.cell.Cell.{Cell}
 use Rattle.cd_gen.specs.declared.key.Place.{Place}
 use Rattle.cd_gen.specs.declared.key.Key.{Key}

@@ -21,7 +21,8 @@ shard_of chain =
 
 -- the root hash of a zero state is its own, that of another block names the chain and the seqno
 abbrev pub root_of : ℕ → ℕ → ℕ → Hash256
-root_of number chain seqno = if seqno == 0 then zero_root number chain else record { 0 = replicate 27 0 ++ chain ∷ to_be_bytes w32 seqno }
+root_of number chain seqno =
+    if seqno == 0 then zero_root number chain else record { 0 = replicate 27 0 ++ chain ∷ to_be_bytes w32 seqno }
 
 -- the file hash names the feed's number
 unfoldable pub block_id : ℕ → ℕ → ℕ → BlockId
@@ -64,7 +65,8 @@ path_of leaf = map (λ step. (leaf / 2 ^ (8 - step)) % 2) (range_with_len 0 9)
 
 -- the masterchain's last block is that of seqno 66
 unfoldable pub master_tasks : ℕ → ℕ → List Task
-master_tasks number seqno = if nat_lt 66 seqno then [] else block_task number 0 seqno (shard_blocks number seqno) ∷ []
+master_tasks number seqno =
+    if nat_lt 66 seqno then [] else block_task number 0 seqno (shard_blocks number seqno) ∷ []
 
 unfoldable pub reading_tasks : ℕ → ℕ → List Task
 reading_tasks number seqno =
@@ -77,7 +79,8 @@ expiring_tasks number seqno = if seqno % 8 == 0 then Expire (block_id number 0 (
 -- the five workers with the blocks of a seqno
 unfoldable pub block_phase : ℕ → ℕ → Phase
 block_phase number seqno = record {
-  workers = (block_task number 1 seqno [] ∷ []) ∷ (block_task number 2 seqno [] ∷ []) ∷ master_tasks number seqno ∷ reading_tasks number seqno ∷ expiring_tasks number seqno ∷ [];
+  workers = (block_task number 1 seqno [] ∷ []) ∷ (block_task number 2 seqno [] ∷ [])
+      ∷ master_tasks number seqno ∷ reading_tasks number seqno ∷ expiring_tasks number seqno ∷ [];
 }
 
 -- the zero states, and the blocks of the seqnos 1 to 67

@@ -70,7 +70,9 @@ some_written number seqno first count = list_any (is_written number seqno) (rang
 -- cells on the paths to the leaves that the block writes, and a pruned branch in the place of each other
 unfoldable pub shown : ℕ → ℕ → ℕ → ℕ → ℕ → ℕ → Tree
 shown number chain block seqno zero first =
-    if some_written number block first 1 then full number chain seqno 0 first else pruned (full number chain seqno 0 first)
+    if some_written number block first 1
+    then full number chain seqno 0 first
+    else pruned (full number chain seqno 0 first)
 shown number chain block seqno (suc levels) first =
     if some_written number block first (2 ^ suc levels)
     then over (shown number chain block seqno levels first) (shown number chain block seqno levels (first + 2 ^ levels))
@@ -83,7 +85,8 @@ half_of number chain block seqno = shown number chain block seqno 9 0
 -- the Merkle update from what is shown of an old tree to what is shown of a new one
 abbrev pub update_between : Tree → Tree → Tree
 update_between old new =
-    cell true (bits_of (4 ∷ hash_text old ++ hash_text new ++ depth_text old ++ depth_text new)) (tree_and old (tree_and new no_trees))
+    cell true (bits_of (4 ∷ hash_text old ++ hash_text new ++ depth_text old ++ depth_text new))
+    (tree_and old (tree_and new no_trees))
 
 -- the update of a block: both halves show the leaves that it writes, the old one as the blocks before left them
 unfoldable pub update_of : ℕ → ℕ → ℕ → Tree

@@ -66,7 +66,8 @@ impl Chain {
         ensures owner { self.new.owner ≡ self.old.owner }
         ensures seqno { OnOk result (self.new.seqno ≡ seqno) }
         ensures short { IfOk result (λ bag. IsBagFit bag) }
-        ensures bag { IfOk result (λ bag. bag ≡ update_bag self.old.owner.number self.old.owner.chain seqno) }
+        ensures bag { IfOk result
+            (λ bag. bag ≡ update_bag self.old.owner.number self.old.owner.chain seqno) }
     {
         let block = Block {
             owner: self.owner,
@@ -81,9 +82,11 @@ impl Chain {
 
 /// The bag of a block's update. `state` is what the cells of the state before show.
 fn update_of(alloc: Global, state: &[ChildInfo], block: &Block) -> Result<Bytes, Memory>
-    requires { state.now ≡ infos_of (state_of block.now.owner.number block.now.owner.chain (block.now.seqno - 1)) }
+    requires { state.now ≡ infos_of (state_of block.now.owner.number block.now.owner.chain
+        (block.now.seqno - 1)) }
     ensures short { IfOk result (λ bag. IsBagFit bag) }
-    ensures bag { IfOk result (λ bag. bag ≡ update_bag block.now.owner.number block.now.owner.chain block.now.seqno) }
+    ensures bag { IfOk result (λ bag. bag
+        ≡ update_bag block.now.owner.number block.now.owner.chain block.now.seqno) }
 {
     let old = View::before(block);
     let new = View::after(block);
@@ -97,8 +100,10 @@ fn update_of(alloc: Global, state: &[ChildInfo], block: &Block) -> Result<Bytes,
 
 /// What the cells of a block's state show, by those of the state before.
 fn state_after(alloc: Global, state: &[ChildInfo], block: &Block) -> Result<Vec<ChildInfo>, Memory>
-    requires { state.now ≡ infos_of (state_of block.now.owner.number block.now.owner.chain (block.now.seqno - 1)) }
-    ensures { IfOk result (λ infos. infos.items ≡ infos_of (state_of block.now.owner.number block.now.owner.chain block.now.seqno)) }
+    requires { state.now ≡ infos_of (state_of block.now.owner.number block.now.owner.chain
+        (block.now.seqno - 1)) }
+    ensures { IfOk result (λ infos. infos.items
+        ≡ infos_of (state_of block.now.owner.number block.now.owner.chain block.now.seqno)) }
 {
     let mut infos = Vec::with_capacity(alloc, STATE_CELLS)?;
     keep_state(&mut infos, state, block, LEVELS, 0)?;

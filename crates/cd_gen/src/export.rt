@@ -23,7 +23,8 @@ const MOST_BAG: usize = 67_108_864;
 /// The bag of the tree of these cells: each of those of equal hash and height once, in the order of an export.
 pub fn bag_of(alloc: Global, cells: &[Cell]) -> Result<Bytes, Memory>
     ensures short { IfOk result (λ bag. IsBagFit bag) }
-    ensures tree { (t : Tree) → faces cells.now ≡ faces_of t → IfOk result (λ bag. bag ≡ export.bag_of sha t) }
+    ensures tree { (t : Tree) → faces cells.now ≡ faces_of t
+        → IfOk result (λ bag. bag ≡ export.bag_of sha t) }
 {
     let listed = in_order(alloc, cells)?;
     // Neither is ever so.

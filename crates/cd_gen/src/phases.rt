@@ -1,4 +1,4 @@
-ghost use Rattle.std.specs.Prelude.{◌≡◌, ◌+◌, ◌-◌, ◌*◌, ◌/◌, ◌%◌, ◌^◌, ◌≤◌, [], ◌∷◌, IfOk};
+ghost use Rattle.std.specs.Prelude.{◌≡◌, ◌-◌, ◌*◌, ◌/◌, ◌%◌, ◌^◌, ◌≤◌, [], ◌∷◌, IfOk};
 ghost use Rattle.cd_feed.specs.Feeds.{IsBagFit};
 ghost use Rattle.cd_gen.specs.Generated as spec;
 ghost use Rattle.cd_gen.specs.Generated.{zero_bag, update_bag};

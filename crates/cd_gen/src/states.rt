@@ -1,4 +1,4 @@
-ghost use Rattle.std.specs.Prelude.{◌≡◌, ◌+◌, ◌-◌, ◌*◌, ◌^◌, ◌≤◌, ◌<◌, ℕ, false, [], ◌∷◌, length, IfOk};
+ghost use Rattle.std.specs.Prelude.{◌≡◌, ◌+◌, ◌-◌, ◌*◌, ◌^◌, ◌≤◌, ◌<◌, false, [], ◌∷◌, length, IfOk};
 ghost use Rattle.cd_cell.specs.Tree.{face_of};
 ghost use Rattle.cd_gen.specs.States as spec;
 ghost use Rattle.cd_gen.specs.States.{sha};

@@ -122,8 +122,9 @@ fn root_of(infos: &[ChildInfo]) -> ChildInfo
 fn halves(infos: &[ChildInfo], levels: u32) -> (&[ChildInfo], &[ChildInfo])
     requires levels { levels ≤ 8 }
     requires long { length infos.now + 1 ≡ 2 ^ levels * 4 }
-    ensures { (left right : Tree) → length (infos_of left) + 1 ≡ 2 ^ levels * 2 → length (infos_of right) + 1 ≡ 2 ^ levels * 2
-        → infos.now ≡ infos_of (over left right) → (result.0.now ≡ infos_of right) × (result.1.now ≡ infos_of left) }
+    ensures { (left right : Tree) → length (infos_of left) + 1 ≡ 2 ^ levels * 2
+        → length (infos_of right) + 1 ≡ 2 ^ levels * 2 → infos.now ≡ infos_of (over left right)
+        → (result.0.now ≡ infos_of right) × (result.1.now ≡ infos_of left) }
 {
     let half = 2 * leaves_under(levels) as usize - 1;
     (&infos[..half], &infos[half..2 * half])
@@ -169,9 +170,10 @@ pub fn keep_state(
 ) -> Result<ChildInfo, Memory>
     requires levels { levels ≤ 9 }
     requires leaves { first + 2 ^ levels ≤ 512 }
-    requires state { state.now ≡ infos_of (full block.now.owner.number block.now.owner.chain (block.now.seqno - 1) levels first) }
-    ensures { IfOk result (λ info. IsKept (full block.now.owner.number block.now.owner.chain block.now.seqno levels first)
-        infos.old.items infos.new.items info) }
+    requires state { state.now ≡ infos_of (full block.now.owner.number block.now.owner.chain
+        (block.now.seqno - 1) levels first) }
+    ensures { IfOk result (λ info. IsKept (full block.now.owner.number block.now.owner.chain
+        block.now.seqno levels first) infos.old.items infos.new.items info) }
 {
     if !block.writes_some(first, leaves_under(levels)) {
         infos.extend_from_slice(state)?;

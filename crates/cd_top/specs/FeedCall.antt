@@ -11,13 +11,17 @@ use Rattle.cd_top.specs.ZeroCall.{HasGot, HasFailed}
 abbrev pub text_of_feed : ℕ → List ℕ
 text_of_feed number = feed_text (feed_of number)
 
-module _ {O : Type 0} (o : SinkGhosts O) (number : ℕ) where
-  abbrev pub FeedEnds : O → O → Status → Type 0
+-- how writing a text ends, where the text was to be made first
+module _ {O : Type 0} (o : SinkGhosts O) (text : List ℕ) where
+  abbrev pub TextEnds : O → O → Status → Type 0
   -- written
-  FeedEnds out out_after status.Ok = HasGot o (text_of_feed number) out out_after
+  TextEnds out out_after status.Ok = HasGot o text out out_after
   -- the sink failed: a part of it is written
-  FeedEnds out out_after status.WriteFault = HasFailed o (text_of_feed number) out out_after
+  TextEnds out out_after status.WriteFault = HasFailed o text out out_after
   -- want of memory: nothing is written
-  FeedEnds out out_after status.Memory = out_after ≡ out
+  TextEnds out out_after status.Memory = out_after ≡ out
   -- nothing else can go wrong
-  FeedEnds out out_after _ = ⊥
+  TextEnds out out_after _ = ⊥
+
+abbrev pub FeedEnds : {O : Type 0} → SinkGhosts O → ℕ → O → O → Status → Type 0
+FeedEnds o number = TextEnds o (text_of_feed number)

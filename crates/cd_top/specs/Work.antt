@@ -18,7 +18,7 @@ command_of (work.Zero name) = command.Zero name.workchain name.file None
 command_of (work.Gen number) = command.Gen number
 
 abbrev pub IsLineOf : Work → List (List ℕ) → Type 0
-IsLineOf work words = HasCommand words (command_of work)
+IsLineOf w words = HasCommand words (command_of w)
 
 module _ (H : List ℕ → Hash256) {S O K : Type 0} (s : SourceGhosts S) (o : SinkGhosts O) (k : KeeperGhosts K) where
   abbrev pub WorkEnds : Work → S → S → O → O → K → K → Status → Type 0

@@ -1,5 +1,5 @@
 ghost use Rattle.std.specs.Prelude.{◌≡◌, IfOk};
-ghost use Rattle.cd_top.specs.FeedCall.{text_of_feed, FeedEnds};
+ghost use Rattle.cd_top.specs.FeedCall.{text_of_feed, TextEnds, FeedEnds};
 
 use crate::status::Status;
 use cd_base::{Memory, Sink, write_all};
@@ -15,15 +15,22 @@ fn text_of(alloc: Global, number: u64) -> Result<Vec<u8>, Memory>
     write_feed(alloc, &feed)
 }
 
+/// Writes a text.
+fn put<O: Sink>(out: &mut O, text: &[u8]) -> Status
+    ensures { TextEnds O.Sink text.now out.old out.new result }
+{
+    match write_all(out, text) {
+        Err(_) => Status::WriteFault,
+        Ok(()) => Status::Ok,
+    }
+}
+
 /// The command `gen`: writes the text of the feed of a number.
 pub fn print_feed<O: Sink>(alloc: Global, number: u64, out: &mut O) -> Status
     ensures { FeedEnds O.Sink number out.old out.new result }
 {
     match text_of(alloc, number) {
         Err(_) => Status::Memory,
-        Ok(text) => match write_all(out, &text) {
-            Err(_) => Status::WriteFault,
-            Ok(()) => Status::Ok,
-        },
+        Ok(text) => put(out, &text),
     }
 }

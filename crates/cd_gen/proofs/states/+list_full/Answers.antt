@@ -1,4 +1,4 @@
-use Rattle.std.proofs.Common.{◌≡◌, ◌+◌, ◌-◌, ◌^◌, ◌∷◌, [], ℕ, false, IfOk, ap, sym, subst, arith}
+use Rattle.std.proofs.Common.{◌+◌, ◌-◌, ◌^◌, [], ℕ, false, IfOk, sym, subst, arith}
 use Rattle.cd_cell.specs.Tree.{Tree}
 use Rattle.cd_gen.specs.States.{bits_of, leaf_text, full}
 use Rattle.cd_gen.specs.Listing.{IsListed}

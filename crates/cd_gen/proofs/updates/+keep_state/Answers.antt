@@ -1,8 +1,7 @@
-use Rattle.std.proofs.Common.{◌≡◌, ◌+◌, ◌-◌, ◌*◌, ◌^◌, ◌++◌, ◌∷◌, [], ℕ, true, false, length, IfOk, ap, sym, subst, ◌∙◌, arith}
-use Rattle.cd_cell.specs.declared.info.ChildInfo.{ChildInfo}
+use Rattle.std.proofs.Common.{◌≡◌, ◌+◌, ◌-◌, ◌^◌, ◌++◌, ℕ, true, false, length, IfOk, ap, sym, subst, ◌∙◌, arith}
 use Rattle.cd_cell.specs.Tree.{Tree, info_of}
-use Rattle.cd_gen.specs.States.{sha, bits_of, leaf_text, leaf, over, is_written, full, pruned, shown}
-use Rattle.cd_gen.specs.Listing.{infos_of, pruned_face, IsListed, IsKept}
+use Rattle.cd_gen.specs.States.{sha, bits_of, leaf_text, leaf, is_written, full}
+use Rattle.cd_gen.specs.Listing.{infos_of, IsKept}
 use Rattle.cd_gen.proofs.ListingLaws.{turned-some, length-infos_of, kept-alone, kept-pair}
 use Rattle.cd_gen.proofs.WriterLaws.{writer_of-written, writer_of-other, asked, none_written, one_written, full-same, full-leaf, full-over, twice-half}
 use Rattle.cd_gen.proofs.updates.+keep_state.Goals as goal

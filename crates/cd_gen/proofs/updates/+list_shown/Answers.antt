@@ -1,8 +1,7 @@
-use Rattle.std.proofs.Common.{◌≡◌, ◌+◌, ◌-◌, ◌*◌, ◌^◌, ◌++◌, ◌∷◌, [], ℕ, true, false, length, IfOk, ap, sym, subst, ◌∙◌, arith}
-use Rattle.cd_cell.specs.declared.info.ChildInfo.{ChildInfo}
+use Rattle.std.proofs.Common.{◌≡◌, ◌+◌, ◌-◌, ◌^◌, [], ℕ, true, false, length, IfOk, ap, sym, subst, ◌∙◌, arith}
 use Rattle.cd_cell.specs.Tree.{Tree, info_of}
-use Rattle.cd_gen.specs.States.{sha, bits_of, leaf_text, leaf, over, is_written, full, pruned, shown}
-use Rattle.cd_gen.specs.Listing.{infos_of, pruned_face, IsListed, IsKept}
+use Rattle.cd_gen.specs.States.{sha, bits_of, leaf_text, leaf, is_written, full, pruned, shown}
+use Rattle.cd_gen.specs.Listing.{infos_of, pruned_face, IsListed}
 use Rattle.cd_gen.proofs.ListingLaws.{turned-some, length-infos_of, listed-alone, listed-pair}
 use Rattle.cd_gen.proofs.WriterLaws.{asked, none_written, one_written, full-same, full-over, twice-half, shown-hidden, shown-leaf, shown-over}
 use Rattle.cd_gen.proofs.updates.+list_shown.Goals as goal

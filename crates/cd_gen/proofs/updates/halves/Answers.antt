@@ -1,4 +1,4 @@
-use Rattle.std.proofs.Common.{◌≡◌, ◌-◌, ◌*◌, ℕ, take, drop, length, ap, ap₂, sym, ◌∙◌, arith}
+use Rattle.std.proofs.Common.{◌≡◌, ◌-◌, ◌*◌, take, drop, length, ap, ◌∙◌, arith}
 use Rattle.cd_cell.specs.Tree.{info_of}
 use Rattle.cd_gen.specs.States.{sha}
 use Rattle.cd_gen.specs.Listing.{infos_of}
