@@ -1,5 +1,5 @@
 -- Going over a table in the order of its keys: the entry that is met next is the first of those that are left.
-use Rattle.std.proofs.Common.{◌≡◌, ℕ, Bool, true, false, cond, List, [], ◌∷◌, map, filter, Option, Some, None, Contains, Less, Equal, Greater, Ordering, refl, sym, ap, ◌∙◌, subst, inl, inr, ⊎_elim, ◌⊎◌}
+use Rattle.std.proofs.Common.{◌≡◌, ℕ, Bool, true, false, cond, List, [], ◌∷◌, filter, Option, Some, None, Contains, Less, Equal, Greater, Ordering, refl, sym, ap, ◌∙◌, subst, ⊎_elim}
 use Rattle.std.specs.Prelude.{find}
 use Rattle.std.specs.Ordering.{nat_cmp, is_lt, on}
 use Rattle.std.specs.Cmp.{tied_itself}
