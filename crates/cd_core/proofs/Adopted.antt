@@ -2,7 +2,6 @@
 use Rattle.std.proofs.Common.{◌≡◌, ℕ, ◌≤◌, List, [], ◌++◌, Option, Some, None, All, AllPairs, refl, sym, ap, ◌∙◌, subst, arith, append-nil}
 use Rattle.std.specs.Prelude.{IfSome}
 use Rattle.std.specs.Option.{option_map}
-use Rattle.std.proofs.lemmas.List.Elements.{All-nil}
 use Rattle.cd_base.specs.declared.hash.Hash256.{Hash256}
 use Rattle.cd_block.specs.declared.description.Descr.{Descr}
 use Rattle.cd_block.specs.Description.{IsDescr, IsDescrFit}
@@ -10,12 +9,11 @@ use Rattle.cd_keeper.specs.Contents.{Contents}
 use Rattle.cd_record.specs.declared.limits.TheConstants.{GREATEST_COUNT}
 use Rattle.cd_event.specs.declared.entry.Entry.{Entry}
 use Rattle.cd_world.specs.declared.world.World.{World}
-use Rattle.cd_world.specs.declared.world.PinRow.{PinRow}
-use Rattle.cd_world.specs.Standing.{IsBeforeBlock, IsTidy, block_at}
+use Rattle.cd_world.specs.Standing.{IsBeforeBlock}
 use Rattle.cd_world.specs.Unfolded.{told_in}
 use Rattle.cd_count.specs.SoundContents.{AreSoundContents}
 use Rattle.cd_core.specs.declared.start.CoreStart.{CoreStart}
-use Rattle.cd_core.specs.Cores.{IsCore, IsHeld, IsWritable, opened, world_after, told_start}
+use Rattle.cd_core.specs.Cores.{IsCore, IsHeld, IsWritable, opened, world_after}
 
 -- blocks in their order, and no pins
 writable-opened : (blocks : List Descr) → AllPairs IsBeforeBlock blocks → All IsDescrFit blocks → All IsDescr blocks → IsWritable (opened blocks)

@@ -1,6 +1,6 @@
 -- The blocks of a tidy world have ids of their own.
-use Rattle.std.proofs.Common.{◌≡◌, ℕ, Bool, true, false, cond, not, zero, suc, List, [], ◌∷◌, take, drop, map, Option, Some, None, Contains, Less, refl, sym, ap, ◌∙◌, subst}
-use Rattle.std.specs.Prelude.{◌&&◌, slice_get, remove}
+use Rattle.std.proofs.Common.{◌≡◌, ℕ, Bool, true, false, cond, not, zero, suc, List, [], ◌∷◌, Some, Contains, Less, refl, sym, ap, ◌∙◌, subst}
+use Rattle.std.specs.Prelude.{slice_get, remove}
 use Rattle.std.specs.List.{filter}
 use Rattle.std.proofs.lemmas.Bool.{true≢false, and_parts}
 use Rattle.std.proofs.lemmas.Option.{none-some, same_Some}
@@ -12,8 +12,8 @@ use Rattle.cd_block.specs.Description.{IsDescr}
 use Rattle.cd_cell.proofs.Subtrees.{Contains-first, Contains-later}
 use Rattle.cd_world.specs.declared.world.World.{World}
 use Rattle.cd_world.specs.declared.world.PinRow.{PinRow}
-use Rattle.cd_world.specs.Standing.{IsBeforeBlock, same_id, is_pinned}
-use Rattle.cd_world.specs.Changes.{goes_with, pins_without}
+use Rattle.cd_world.specs.Standing.{IsBeforeBlock}
+use Rattle.cd_world.specs.Changes.{goes_with}
 use Rattle.cd_world.proofs.Orders.{InOrder, order_from_AllPairs, id_cmp-total}
 use Rattle.cd_world.proofs.PinsStay.{same_id-Decides, false_from}
 use Rattle.cd_core.specs.Cores.{IsWritable}

@@ -1,6 +1,6 @@
 -- A pin begins and a look is answered, as steps of the machine.
-use Rattle.std.proofs.Common.{◌≡◌, ℕ, ◌+◌, ◌-◌, ◌^◌, ◌<◌, ◌≤◌, Bool, true, false, not, nat_lt, List, [], ◌∷◌, ◌++◌, map, Option, Some, None, refl, sym, ap, ◌∙◌, subst, arith}
-use Rattle.std.specs.Prelude.{min, is_none, IfSome, Result, Ok, Err}
+use Rattle.std.proofs.Common.{◌≡◌, ℕ, ◌+◌, ◌≤◌, true, false, not, nat_lt, List, [], ◌∷◌, ◌++◌, map, Option, Some, None, refl, ap, ◌∙◌}
+use Rattle.std.specs.Prelude.{IfSome, Result, Ok, Err}
 use Rattle.std.specs.Option.{option_map, option_and_then}
 use Rattle.std.specs.FinMap as finite
 use Rattle.cd_base.specs.declared.hash.Hash256.{Hash256}
@@ -22,11 +22,11 @@ use Rattle.cd_base.specs.Counts.{Rose}
 use Rattle.cd_world.specs.declared.world.World.{World}
 use Rattle.cd_world.specs.declared.world.PinRow.{PinRow}
 use Rattle.cd_world.specs.Standing.{kept_at, pin_at, pins_of}
-use Rattle.cd_world.specs.Changes.{with_pin, row_of}
+use Rattle.cd_world.specs.Changes.{row_of}
 use Rattle.cd_world.specs.Machine.{unpinnable, refused_if, no_pin}
 use Rattle.cd_world.specs.Told.{ToldWorld, shown, seen, held}
 use Rattle.cd_world.specs.Unfolded.{face_in, face_read}
-use Rattle.cd_count.specs.Reading.{stored_in, as_read}
+use Rattle.cd_count.specs.Reading.{as_read}
 use Rattle.cd_count.specs.PlanWorlds.{record_of_cell}
 use Rattle.cd_count.proofs.Readable.{readable}
 use Rattle.cd_core.specs.Cores.{IsWritable, Holds}

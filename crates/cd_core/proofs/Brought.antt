@@ -1,9 +1,8 @@
 -- What comes with a block that is stored: its tree, the listed cells of it, and the world that has it.
-use Rattle.std.proofs.Common.{◌≡◌, ℕ, zero, suc, ◌<◌, ◌≤◌, Bool, true, false, cond, List, [], ◌∷◌, ◌++◌, length, length-take, get_or-take, map, take, get_or, flat_map, Option, Some, None, Contains, refl, sym, ap, ap₂, ◌∙◌, subst, subst₂, inl, inr, ⊎_elim, ◌⊎◌, arith}
-use Rattle.std.specs.Prelude.{IsSome, is_some, ◌||◌}
+use Rattle.std.proofs.Common.{◌≡◌, ℕ, zero, suc, ◌<◌, Bool, true, false, cond, List, [], ◌∷◌, ◌++◌, length, length-take, get_or-take, map, take, get_or, flat_map, None, Contains, refl, sym, ap, ap₂, ◌∙◌, subst, subst₂, inl, inr, ⊎_elim, ◌⊎◌, arith}
+use Rattle.std.specs.Prelude.{is_some, ◌||◌}
 use Rattle.std.specs.List.{list_any}
 use Rattle.std.specs.Ordering.{is_lt}
-use Rattle.std.specs.FinMap.{get}
 use Rattle.std.proofs.lemmas.Bool.{true≢false}
 use Rattle.std.proofs.lemmas.List.{map-append, length-map, get_or_default, get_or-map}
 use Rattle.std.proofs.lemmas.List.Elements.{All-contains, Contains-append_cases, Contains-append_left, Contains-append_right, Contains-get_or}
@@ -20,15 +19,15 @@ use Rattle.cd_cell.specs.Levels.{rep_of_face}
 use Rattle.cd_cell.specs.Tree.{Tree, children, subtrees, info_of, face_of, rep_of, IsWellFormed}
 use Rattle.cd_cell.specs.Export.{AreClashFree}
 use Rattle.cd_cell.specs.Unfolding.{no_tree}
-use Rattle.cd_cell.specs.Listings.{no_cell, listed_at, new_cell_of, info_of_new, is_named, old_cells, listed_trees, Fits, IsValid}
+use Rattle.cd_cell.specs.Listings.{no_cell, listed_at, new_cell_of, info_of_new, old_cells, listed_trees, Fits}
 use Rattle.cd_cell.specs.PreparedView.{PreparedView}
-use Rattle.cd_cell.proofs.Subtrees.{Contains-first, Contains-later, Contains-cases, Contains-nil, Contains-map, Contains-mapped, flat_map-cases, flat_map-listed, well_formed-subtree, same_subtrees, subtree-itself, subtrees-subtree, child-is-subtree, kids-face_of}
+use Rattle.cd_cell.proofs.Subtrees.{Contains-first, Contains-later, Contains-cases, Contains-map, Contains-mapped, flat_map-cases, flat_map-listed, well_formed-subtree, same_subtrees, subtree-itself, subtrees-subtree, child-is-subtree, kids-face_of}
 use Rattle.cd_cell.proofs.ListTests.{list_any-Contains}
 use Rattle.cd_cell.proofs.ListedTrees.{rep_of-face_of}
 use Rattle.cd_world.specs.World.{Block}
 use Rattle.cd_world.specs.Standing.{same_id, block_at}
 use Rattle.cd_world.specs.Changes.{placed, stored}
-use Rattle.cd_world.specs.Told.{ToldWorld, block_of, shown, states_of, held, made, with_stored, first_clash, IsSoundBlock, IsSound}
+use Rattle.cd_world.specs.Told.{ToldWorld, block_of, shown, states_of, made, with_stored, first_clash, IsSoundBlock, IsSound}
 use Rattle.cd_world.specs.Preparing.{IsCellOf}
 use Rattle.cd_world.specs.Soundness.{IsStorable}
 use Rattle.cd_world.proofs.PinsStay.{same_id-Decides, same_id-self, false_from}
@@ -36,8 +35,8 @@ use Rattle.cd_world.proofs.TidyWorlds.{IsThere, found-there}
 use Rattle.cd_world.proofs.Orders.{Contains-placed}
 use Rattle.cd_world.proofs.EqualImages.{cells_of, cell_is_held}
 use Rattle.cd_world.proofs.BesideHeld.{known-clear, beside-clear}
-use Rattle.cd_world.proofs.MadeTrees.{made_cells, are-made, info-made, cell-made, cells-good, cells-behind, listed-closed}
-use Rattle.cd_count.specs.Changes.{states, rep_bytes, held_under, AreTogether}
+use Rattle.cd_world.proofs.MadeTrees.{are-made, info-made, cell-made, cells-good, cells-behind, listed-closed}
+use Rattle.cd_count.specs.Changes.{states, AreTogether}
 use Rattle.cd_count.specs.Bringing.{IsBrought}
 use Rattle.cd_count.proofs.Changes.{block_comes}
 

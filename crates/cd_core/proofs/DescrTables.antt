@@ -1,29 +1,26 @@
 -- What puts and drops of descriptions make of a table, key by key.
-use Rattle.std.proofs.Common.{◌≡◌, ℕ, Bool, true, false, cond, not, List, [], ◌∷◌, ◌++◌, map, Option, Some, None, Contains, refl, sym, ap, ap₂, ◌∙◌, subst, ⊎_elim}
-use Rattle.std.specs.Prelude.{◌||◌, ◌&&◌}
+use Rattle.std.proofs.Common.{◌≡◌, ℕ, Bool, true, false, cond, not, List, [], ◌∷◌, map, Option, Some, None, Contains, refl, sym, ap, ap₂, ◌∙◌}
+use Rattle.std.specs.Prelude.{◌||◌}
 use Rattle.std.specs.Option.{option_or}
 use Rattle.std.specs.List.{filter, list_any, AllByRecursion, IsDistinct}
 use Rattle.std.specs.Map.{keys_of}
-use Rattle.std.specs.Ordering.{nat_cmp, eq_by_cmp, is_lt}
+use Rattle.std.specs.Ordering.{nat_cmp, is_lt}
 use Rattle.std.specs.Cmp.Lexicographic.{slice_cmp, nat_list_cmp_total}
 use Rattle.std.specs.FinMap as finite
 use Rattle.std.specs.FinMap.{find, get, get-insert, get-remove, get-from_entries, same_map, slice_cmp-IsAntisymmetric, nat_cmp-IsAntisymmetric}
 use Rattle.std.proofs.lemmas.Bool.{true≢false}
-use Rattle.std.proofs.lemmas.List.Elements.{All-contains}
 use Rattle.cd_base.specs.declared.hash.Hash256.{Hash256}
-use Rattle.cd_block.specs.declared.block.BlockId.{BlockId}
 use Rattle.cd_block.specs.declared.description.Descr.{Descr}
-use Rattle.cd_block.specs.Block.{IsBlockId, key_of, id_cmp}
+use Rattle.cd_block.specs.Block.{key_of, id_cmp}
 use Rattle.cd_block.specs.Description.{descr_text, IsDescr}
 use Rattle.cd_block.proofs.Keys.{key_of_injective}
 use Rattle.cd_cell.proofs.Subtrees.{Contains-first, Contains-later}
 use Rattle.cd_keeper.specs.Contents.{Table, Change, put_all, drop_all}
 use Rattle.cd_keeper.specs.NoKeyTwice.{same_key}
 use Rattle.cd_world.specs.Image.{image_of, descr_of, descr_entry}
-use Rattle.cd_world.specs.Standing.{is_expired}
-use Rattle.cd_world.specs.Changes.{placed, marked}
-use Rattle.cd_world.specs.Told.{ToldWorld, block_of, shown, IsSoundBlock, IsSound}
-use Rattle.cd_world.proofs.Held.{same_bytes, bytes_tie}
+use Rattle.cd_world.specs.Changes.{placed}
+use Rattle.cd_world.specs.Told.{ToldWorld, block_of, shown, IsSoundBlock}
+use Rattle.cd_world.proofs.Held.{same_bytes}
 use Rattle.cd_world.proofs.Orders.{Contains-filter}
 use Rattle.cd_count.specs.Changes.{DescsLead}
 use Rattle.cd_count.specs.PlanRows.{descr_puts}

@@ -9,7 +9,6 @@ use Rattle.cd_keeper.specs.Keeping.{KeepsHeld, IsApplied, longer}
 use Rattle.cd_record.specs.declared.limits.TheConstants.{GREATEST_COUNT}
 use Rattle.cd_event.specs.declared.names.Who.{Who}
 use Rattle.cd_event.specs.declared.event.Event.{Event}
-use Rattle.cd_event.specs.declared.entry.Entry.{Entry}
 use Rattle.cd_event.specs.declared.entry.Reply.{Reply}
 use Rattle.cd_event.specs.declared.entry.Reply.TheVariants as reply
 use Rattle.cd_event.specs.declared.refusal.Refusal.{Refusal}
@@ -27,7 +26,7 @@ use Rattle.cd_world.specs.ToldTrees.{HasBytes}
 use Rattle.cd_world.proofs.SoundWorlds.{stays_sound}
 use Rattle.cd_count.specs.SoundContents.{AreSoundContents}
 use Rattle.cd_core.specs.Cores.{IsWritable, Holds}
-use Rattle.cd_core.specs.Steps.{Did, DidTold, moved_by, told_by, batches_by}
+use Rattle.cd_core.specs.Steps.{Did}
 use Rattle.cd_core.proofs.Writable.{IsAskedPlainly, writable-after}
 
 -- contents are those of any world with the same blocks

@@ -1,5 +1,5 @@
 -- The block that goes with a pin is dropped from the keeper.
-use Rattle.std.proofs.Common.{◌≡◌, ℕ, ◌+◌, ◌*◌, ◌≤◌, Bool, true, List, [], ◌∷◌, length, map, Option, Some, Contains, refl, sym, ap, ◌∙◌, subst}
+use Rattle.std.proofs.Common.{◌≡◌, ℕ, ◌+◌, ◌*◌, ◌≤◌, true, List, [], ◌∷◌, length, map, Option, Some, Contains, sym, ap, ◌∙◌, subst}
 use Rattle.std.specs.Prelude.{slice_get}
 use Rattle.std.specs.List.{filter}
 use Rattle.cd_base.specs.declared.hash.Hash256.{Hash256}
@@ -14,7 +14,7 @@ use Rattle.cd_world.specs.declared.world.PinRow.{PinRow}
 use Rattle.cd_world.specs.World.{Block}
 use Rattle.cd_world.specs.World as trees
 use Rattle.cd_world.specs.Changes.{goes_with}
-use Rattle.cd_world.specs.Told.{ToldWorld, block_of, shown, IsSound}
+use Rattle.cd_world.specs.Told.{ToldWorld, block_of, shown}
 use Rattle.cd_count.specs.Changes.{Rows, rep_bytes, AreTogether, AreCounted, AreDeadCells}
 use Rattle.cd_core.specs.Cores.{IsWritable, Holds}
 use Rattle.cd_core.specs.Steps.{Batches, IsDropOf, told_without}

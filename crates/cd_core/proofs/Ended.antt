@@ -1,9 +1,7 @@
 -- A pin ends, as a step of the machine.
-use Rattle.std.proofs.Common.{◌≡◌, ℕ, ◌≤◌, Bool, true, false, zero, suc, List, [], ◌∷◌, map, Option, Some, None, refl, sym, ap, ◌∙◌, subst}
-use Rattle.std.specs.Prelude.{◌||◌, slice_get, remove, Result, Ok, Err}
-use Rattle.std.specs.Option.{option_to_list}
+use Rattle.std.proofs.Common.{◌≡◌, ℕ, ◌≤◌, Bool, true, false, zero, suc, List, [], ◌∷◌, map, Option, Some, refl, sym, ap, ◌∙◌, subst}
+use Rattle.std.specs.Prelude.{◌||◌, slice_get, remove, Err}
 use Rattle.std.specs.List.{filter, list_any}
-use Rattle.std.proofs.lemmas.Bool.{true≢false}
 use Rattle.std.proofs.lemmas.Option.{none-some, same_Some}
 use Rattle.cd_base.specs.declared.hash.Hash256.{Hash256}
 use Rattle.cd_block.specs.declared.description.Descr.{Descr}
@@ -12,10 +10,8 @@ use Rattle.cd_keeper.specs.Contents.{Contents}
 use Rattle.cd_keeper.specs.Keeping.{KeepsHeld}
 use Rattle.cd_record.specs.declared.limits.TheConstants.{GREATEST_COUNT}
 use Rattle.cd_event.specs.declared.names.Who.{Who}
-use Rattle.cd_event.specs.declared.event.Event.{Event}
 use Rattle.cd_event.specs.declared.event.Event.TheVariants.{Unpin}
 use Rattle.cd_event.specs.declared.entry.Reply.TheVariants as reply
-use Rattle.cd_event.specs.declared.refusal.Refusal.TheVariants as refusal
 use Rattle.cd_event.specs.declared.faults.UnpinFault.{UnpinFault}
 use Rattle.cd_event.specs.declared.faults.UnpinFault.TheVariants as unpin
 use Rattle.cd_event.specs.Replies.{unpin_reply}
@@ -31,7 +27,7 @@ use Rattle.cd_core.specs.Effects.{AreCollected, collected_by}
 use Rattle.cd_core.specs.Cores.{IsWritable}
 use Rattle.cd_core.specs.Steps.{Did, Batches, told_without, is_keeper_fault, IsOutsideFault}
 use Rattle.cd_core.proofs.Apart.{goes-at}
-use Rattle.cd_core.proofs.Doings.{memory-did, refused-did, failed-did, quiet-did, batch-did, contents-blocks}
+use Rattle.cd_core.proofs.Doings.{memory-did, failed-did, quiet-did, batch-did, contents-blocks}
 use Rattle.cd_core.proofs.Unpinned.{unpinned, still-blocks}
 
 -- one that passes is found

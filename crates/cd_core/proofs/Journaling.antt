@@ -1,12 +1,10 @@
 -- What a call did, as one entry more of the journal.
 use Rattle.std.proofs.Common.{◌≡◌, ℕ, ◌+◌, ◌-◌, ◌^◌, ◌<◌, ◌≤◌, map, Bool, true, false, cond, List, [], ◌∷◌, ◌++◌, length, Option, Some, None, refl, sym, ap, ◌∙◌, subst, arith, append_assoc, append-nil, length-append, zero-add}
-use Rattle.std.proofs.lemmas.Bool.{true≢false}
 use Rattle.std.proofs.lemmas.List.Sums.{sum_by-append}
 use Rattle.std.specs.Prelude.{min, IfSome, Result, Ok, Err, IfOk}
 use Rattle.std.specs.Option.{option_map, option_to_list}
-use Rattle.std.specs.List.{count_by}
 use Rattle.cd_base.specs.declared.hash.Hash256.{Hash256}
-use Rattle.cd_base.specs.Counts.{one_more, Rose}
+use Rattle.cd_base.specs.Counts.{one_more}
 use Rattle.cd_block.specs.declared.description.Descr.{Descr}
 use Rattle.cd_keeper.specs.Contents.{Contents}
 use Rattle.cd_keeper.specs.Keeping.{KeepsHeld, longer}
@@ -22,14 +20,14 @@ use Rattle.cd_world.specs.declared.world.PinRow.{PinRow}
 use Rattle.cd_world.specs.Standing.{kept_at, pin_at}
 use Rattle.cd_world.specs.Changes.{with_block, stored, without_pin, without_pins}
 use Rattle.cd_world.specs.Machine.{merge_rows, blocks_of, is_refused, makes_batch, moved, after, replay, unless_expired}
-use Rattle.cd_world.specs.Following.{Follows, AllFollow}
-use Rattle.cd_world.specs.Told.{ToldWorld, shown, told_after, told_replay, FollowsTold, AllFollowTold}
+use Rattle.cd_world.specs.Following.{Follows}
+use Rattle.cd_world.specs.Told.{ToldWorld, shown, told_after, told_replay, FollowsTold}
 use Rattle.cd_world.specs.Image.{IsContentsOf}
 use Rattle.cd_world.specs.Trail.{worlds_after, AreContentsOf}
 use Rattle.cd_world.specs.Unfolded.{told_in}
 use Rattle.cd_world.proofs.Replays.{replay-append, all_follow-join, told_replay-append, told_replay-world, told_follow-join, worlds_after-append}
 use Rattle.cd_core.specs.declared.start.CoreStart.{CoreStart}
-use Rattle.cd_core.specs.Cores.{CoreView, IsCore, IsHeld, IsTrailed, Holds, IsWritable, world_after, world_of, told_start, failures, batched}
+use Rattle.cd_core.specs.Cores.{IsCore, IsHeld, Holds, IsWritable, world_after, told_start, failures, batched}
 use Rattle.cd_core.specs.Effects.{Adds, AreSeen}
 use Rattle.cd_cell.specs.FaceView.{FaceView}
 use Rattle.cd_event.specs.declared.faults.LookFault.{LookFault}

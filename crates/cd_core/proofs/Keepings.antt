@@ -1,5 +1,5 @@
 -- Calls on a keeper, one after another.
-use Rattle.std.proofs.Common.{◌≡◌, ℕ, Option, List, refl, sym, ap, ap₂, ◌∙◌}
+use Rattle.std.proofs.Common.{ℕ, Option, List, ap, ◌∙◌}
 use Rattle.std.specs.Option.{option_map}
 use Rattle.cd_base.specs.Counts.{one_more}
 use Rattle.cd_keeper.specs.Contents.{Contents, Change, changed}

@@ -1,16 +1,14 @@
 -- What a plan tells of a state that is to be stored.
-use Rattle.std.proofs.Common.{◌≡◌, ℕ, List, [], ◌∷◌, map, All, Option, Some, None, IfSome, Contains, refl, sym, ap, ap₂, ◌∙◌, subst}
+use Rattle.std.proofs.Common.{◌≡◌, ℕ, List, [], ◌∷◌, map, All, Option, Some, None, IfSome, Contains, sym, ap, ap₂, ◌∙◌, subst}
 use Rattle.std.specs.Prelude.{Result, Ok, Err, IfOk, IsSome}
 use Rattle.std.specs.Option.{option_or}
 use Rattle.std.proofs.lemmas.List.Elements.{All-contains}
 use Rattle.cd_base.specs.declared.hash.Hash256.{Hash256}
 use Rattle.cd_block.specs.declared.block.BlockId.{BlockId}
-use Rattle.cd_cell.specs.declared.info.ChildInfo.{ChildInfo}
 use Rattle.cd_cell.specs.Infos.{rep_of_info}
 use Rattle.cd_cell.specs.Tree.{Tree, rep_of}
 use Rattle.cd_cell.specs.Listings.{Fits}
 use Rattle.cd_cell.specs.PreparedView.{PreparedView}
-use Rattle.cd_keeper.specs.Contents.{Contents}
 use Rattle.cd_event.specs.declared.refusal.Refusal.{Refusal}
 use Rattle.cd_world.specs.declared.world.World.{World}
 use Rattle.cd_world.specs.World as trees
@@ -25,8 +23,6 @@ use Rattle.cd_count.specs.declared.count_fault.CountFault.TheVariants as count
 use Rattle.cd_count.specs.Changes.{Rows, AreAdded}
 use Rattle.cd_count.specs.Bringing.{IsBrought, unheld}
 use Rattle.cd_count.specs.Clashes.{RefusesClash, RefusesFull}
-use Rattle.cd_count.specs.SoundContents.{AreSoundContents}
-use Rattle.cd_core.specs.Cores.{Holds}
 use Rattle.cd_core.specs.Storing.{IsJudged}
 use Rattle.cd_core.proofs.Brought.{listed, brought, rep-come}
 

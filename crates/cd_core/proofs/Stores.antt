@@ -1,6 +1,6 @@
 -- A zero state's block comes: what its batch leads to, and what a plan's fault does.
-use Rattle.std.proofs.Common.{◌≡◌, ℕ, ◌≤◌, Bool, true, false, cond, List, [], ◌∷◌, map, Contains, Option, Some, None, refl, sym, ap, ap₂, ◌∙◌, subst, inl, inr, arith}
-use Rattle.std.specs.Prelude.{Result, Ok, Err, is_some}
+use Rattle.std.proofs.Common.{◌≡◌, ℕ, ◌≤◌, false, List, [], ◌∷◌, Contains, None, sym, ap, ap₂, ◌∙◌, inl}
+use Rattle.std.specs.Prelude.{is_some}
 use Rattle.std.specs.Option.{option_or}
 use Rattle.std.specs.List.{IsDistinct}
 use Rattle.std.specs.Map.{keys_of}
@@ -10,7 +10,6 @@ use Rattle.cd_base.specs.declared.hash.Hash256.{Hash256}
 use Rattle.cd_block.specs.declared.block.BlockId.{BlockId}
 use Rattle.cd_block.specs.declared.description.Descr.{Descr}
 use Rattle.cd_block.specs.Description.{IsDescr}
-use Rattle.cd_cell.specs.Listings.{Fits}
 use Rattle.cd_cell.specs.PreparedView.{PreparedView}
 use Rattle.cd_cell.specs.Tree.{Tree}
 use Rattle.cd_keeper.specs.Contents.{Contents, Change, changed}
@@ -18,27 +17,22 @@ use Rattle.cd_keeper.specs.NoKeyTwice.{same_key}
 use Rattle.cd_record.specs.declared.limits.TheConstants.{GREATEST_COUNT}
 use Rattle.cd_event.specs.declared.names.Who.{Who}
 use Rattle.cd_event.specs.declared.event.Event.{Event}
-use Rattle.cd_event.specs.declared.event.Event.TheVariants.{Zero}
 use Rattle.cd_event.specs.declared.entry.Reply.TheVariants as reply
 use Rattle.cd_event.specs.Replies.{entry_of}
 use Rattle.cd_world.specs.declared.world.World.{World}
-use Rattle.cd_world.specs.World as trees
-use Rattle.cd_world.specs.World.{Block}
 use Rattle.cd_world.specs.Image.{IsContentsOf}
 use Rattle.cd_world.specs.Standing.{block_at}
-use Rattle.cd_world.specs.Changes.{placed, stored}
+use Rattle.cd_world.specs.Changes.{stored}
 use Rattle.cd_world.specs.Machine.{answered, refusal_of, reply_of}
-use Rattle.cd_world.specs.Following.{FollowsBy}
-use Rattle.cd_world.specs.Told.{ToldWorld, shown, block_of, with_stored, cell_refusal, storing_refusal, IsSound, IsSoundBlock, FollowsTold, told_after}
+use Rattle.cd_world.specs.Told.{ToldWorld, shown, block_of, with_stored, cell_refusal, IsSound, IsSoundBlock, FollowsTold, told_after}
 use Rattle.cd_world.specs.Soundness.{IsAsked}
 use Rattle.cd_world.proofs.SoundWorlds.{stays_sound}
 use Rattle.cd_world.proofs.Orders.{Contains-placed_new}
 use Rattle.cd_world.proofs.TidyWorlds.{found-there}
-use Rattle.cd_count.specs.Changes.{Rows, IsCellBatch, AreAdded, AreCounted, DescsLead}
+use Rattle.cd_count.specs.Changes.{Rows, IsCellBatch, AreAdded, DescsLead}
 use Rattle.cd_count.specs.PlanRows.{descr_puts}
-use Rattle.cd_count.specs.SoundContents.{AreSoundContents}
 use Rattle.cd_count.proofs.Changes.{leads}
-use Rattle.cd_core.proofs.DescrTables.{key, look, look-placed, keys-apart, descs-lead}
+use Rattle.cd_core.proofs.DescrTables.{key, look-placed, keys-apart, descs-lead}
 
 -- one key stands once
 one-key : (d : Descr) → IsDistinct same_key (keys_of (descr_puts (d ∷ [])))

@@ -1,7 +1,7 @@
 -- The records of a sound world's contents, added up: its held cells and their counts.
-use Rattle.std.proofs.Common.{◌≡◌, ℕ, ◌+◌, ◌-◌, ◌^◌, ◌<◌, ◌≤◌, zero-add, subst₂, Bool, true, false, cond, List, [], ◌∷◌, map, length, Option, Some, None, refl, sym, ap, ap₂, ◌∙◌, subst, arith}
+use Rattle.std.proofs.Common.{◌≡◌, ℕ, ◌+◌, ◌^◌, ◌<◌, zero-add, subst₂, Bool, true, false, cond, List, [], ◌∷◌, map, length, Option, Some, None, refl, sym, ap, ap₂, ◌∙◌, subst, arith}
 use Rattle.std.specs.List.{sum_by}
-use Rattle.std.specs.Prelude.{min, ◌&&◌, IfSome, Result, Ok, Err}
+use Rattle.std.specs.Prelude.{◌&&◌, IfSome, Result, Ok, Err}
 use lib.Dec.{T}
 use Rattle.std.proofs.lemmas.List.Sums.{sum_by-cons}
 use Rattle.cd_core.proofs.Unpinned.{of-some}
@@ -15,7 +15,7 @@ use Rattle.std.specs.FinMap.Entries.{below_all}
 use Rattle.std.proofs.lemmas.Option.{none-some, same_Some}
 use Rattle.std.proofs.lemmas.List.{length-map}
 use Rattle.cd_base.specs.declared.hash.Hash256.{Hash256}
-use Rattle.cd_cell.specs.Tree.{Tree, face_of}
+use Rattle.cd_cell.specs.Tree.{Tree}
 use Rattle.cd_keeper.specs.Contents.{Table, Contents, next_entry}
 use Rattle.cd_record.specs.declared.record.Record.{Record}
 use Rattle.cd_record.specs.declared.record_fault.RecordFault.{RecordFault}
@@ -25,7 +25,7 @@ use Rattle.cd_world.specs.Told.{ToldWorld, shown, held, count}
 use Rattle.cd_world.proofs.CountLaws.{sum_by-map}
 use Rattle.cd_world.proofs.Held.{same_bytes}
 use Rattle.cd_world.proofs.Plain.{contents-cell, image-cell, record_value}
-use Rattle.cd_count.specs.Reading.{stored_in, as_read}
+use Rattle.cd_count.specs.Reading.{as_read}
 use Rattle.cd_count.specs.PlanWorlds.{record_of_cell}
 use Rattle.cd_count.specs.SoundContents.{AreSoundContents}
 use Rattle.cd_count.proofs.Readable.{readable}

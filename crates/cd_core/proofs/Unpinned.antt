@@ -1,6 +1,6 @@
 -- A pin ends: what becomes of the world, of the keeper's contents, and what the plan is of.
 use Rattle.std.proofs.Common.{◌≡◌, ℕ, ◌≤◌, Bool, true, false, cond, not, List, [], ◌∷◌, map, Option, Some, None, Contains, refl, sym, ap, ◌∙◌, subst}
-use Rattle.std.specs.Prelude.{◌||◌, ◌&&◌, slice_get, IfSome, Result, Ok, Err}
+use Rattle.std.specs.Prelude.{◌||◌, ◌&&◌, slice_get, IfSome, Err}
 use Rattle.std.specs.Option.{option_to_list}
 use Rattle.std.specs.List.{filter, list_any, IsDistinct}
 use Rattle.std.proofs.lemmas.Bool.{true≢false}
@@ -14,12 +14,9 @@ use Rattle.cd_keeper.specs.Contents.{Contents, Change, changed}
 use Rattle.cd_keeper.specs.NoKeyTwice.{same_key}
 use Rattle.cd_nodes.specs.Graphs as nodes
 use Rattle.cd_nodes.proofs.Together.{together-filter}
-use Rattle.cd_event.specs.declared.event.Event.{Event}
 use Rattle.cd_event.specs.declared.event.Event.TheVariants.{Unpin}
 use Rattle.cd_world.specs.declared.world.World.{World}
 use Rattle.cd_world.specs.declared.world.PinRow.{PinRow}
-use Rattle.cd_world.specs.World.{Block}
-use Rattle.cd_world.specs.World as trees
 use Rattle.cd_world.specs.Standing.{pin_at, is_pin, names_block, has_id, is_pinned}
 use Rattle.cd_world.specs.Changes.{goes_with, is_collected, pins_without, without_pin, without_pins}
 use Rattle.cd_world.specs.Machine.{moved}
@@ -28,7 +25,7 @@ use Rattle.cd_world.specs.Image.{IsContentsOf}
 use Rattle.cd_world.specs.ToldTrees.{HasBytes}
 use Rattle.cd_world.proofs.Orders.{Contains-filter}
 use Rattle.cd_count.specs.Changes.{states, cell_graph, rep_bytes, Rows, AreTogether, AreCounted, DescsLead, IsCellBatch}
-use Rattle.cd_count.specs.PlanRows.{AreOfBytes, descr_puts}
+use Rattle.cd_count.specs.PlanRows.{AreOfBytes}
 use Rattle.cd_count.proofs.Changes.{leads}
 use Rattle.cd_core.specs.Cores.{IsWritable}
 use Rattle.cd_event.specs.Turning.{RisesOnly}

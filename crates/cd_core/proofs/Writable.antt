@@ -1,6 +1,6 @@
 -- What is kept of a world for every keeper stays so.
-use Rattle.std.proofs.Common.{◌≡◌, ℕ, ◌≤◌, Bool, true, false, cond, List, [], ◌∷◌, ◌++◌, length, Option, Some, None, refl, sym, ap, ◌∙◌, subst, arith, ⊎_elim}
-use Rattle.std.specs.Prelude.{◌⊎◌, map, filter, not, All, Contains, IsSome}
+use Rattle.std.proofs.Common.{ℕ, ◌≤◌, Bool, true, false, cond, List, [], ◌∷◌, length, Option, Some, None, subst, arith, ⊎_elim}
+use Rattle.std.specs.Prelude.{filter, not, Contains}
 use Rattle.std.specs.List.{AllByRecursion}
 use Rattle.std.specs.Option.{option_to_list}
 use Rattle.cd_base.specs.declared.hash.Hash256.{Hash256}
@@ -15,7 +15,7 @@ use Rattle.cd_event.specs.declared.event.Event.TheVariants.{Zero, Pin, Look, Mer
 use Rattle.cd_world.specs.declared.world.World.{World}
 use Rattle.cd_world.specs.declared.world.PinRow.{PinRow}
 use Rattle.cd_world.specs.Standing.{kept_at, pin_at, is_expired}
-use Rattle.cd_world.specs.Changes.{placed, stored, goes_with, goes_at_once, marked, without_pin, without_pins, without_expired}
+use Rattle.cd_world.specs.Changes.{placed, stored, goes_with, goes_at_once, marked, without_pin, without_pins}
 use Rattle.cd_world.specs.Machine.{is_refused, merge_rows, blocks_of, moved, after, unless_expired}
 use Rattle.cd_world.specs.Following.{Follows}
 use Rattle.cd_world.specs.Soundness.{IsStorable}

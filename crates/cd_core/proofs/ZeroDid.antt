@@ -1,6 +1,6 @@
 -- What the work of a zero state did.
-use Rattle.std.proofs.Common.{◌≡◌, ℕ, ◌≤◌, List, [], ◌∷◌, map, Contains, Option, Some, None, refl, sym, ap, ◌∙◌, subst}
-use Rattle.std.specs.Prelude.{Result, Ok, Err, is_some}
+use Rattle.std.proofs.Common.{◌≡◌, ℕ, ◌≤◌, List, [], ◌∷◌, map, Option, None, refl, sym, ap, ◌∙◌, subst}
+use Rattle.std.specs.Prelude.{Result, Ok, Err}
 use Rattle.cd_base.specs.declared.hash.Hash256.{Hash256}
 use Rattle.cd_block.specs.declared.block.BlockId.{BlockId}
 use Rattle.cd_base.specs.Counts.{Rose}
@@ -9,7 +9,7 @@ use Rattle.cd_block.specs.Block.{key_of}
 use Rattle.cd_cell.specs.Listings.{Fits}
 use Rattle.cd_cell.specs.PreparedView.{PreparedView}
 use Rattle.cd_cell.specs.Tree.{Tree}
-use Rattle.cd_keeper.specs.Contents.{Contents, changed}
+use Rattle.cd_keeper.specs.Contents.{Contents}
 use Rattle.cd_keeper.specs.Keeping.{KeepsHeld}
 use Rattle.cd_record.specs.declared.limits.TheConstants.{GREATEST_COUNT}
 use Rattle.cd_event.specs.declared.names.Who.{Who}
@@ -26,7 +26,6 @@ use Rattle.cd_world.specs.declared.world.World.{World}
 use Rattle.cd_world.specs.Changes.{stored, with_block}
 use Rattle.cd_world.specs.Machine.{refusal_of}
 use Rattle.cd_world.specs.Standing.{block_at}
-use Rattle.cd_world.specs.ToldTrees.{HasBytes}
 use Rattle.cd_world.specs.Soundness.{IsStorable}
 use Rattle.cd_world.specs.Told.{ToldWorld, shown, block_of, with_stored, cell_refusal, storing_refusal}
 use Rattle.cd_world.proofs.PinsStay.{none_of, or_first}

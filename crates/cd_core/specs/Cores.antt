@@ -1,6 +1,6 @@
 -- Trusted: a core as contracts see it, and what it keeps: its world is the replay of its journal, its keeper holds that
 -- world's contents, and the keeper's trail and counts are those of the journal.
-use Rattle.std.specs.Prelude.{◌≡◌, ℕ, ◌+◌, ◌-◌, ◌^◌, ◌≤◌, min, Bool, if◌then◌else◌, List, [], ◌∷◌, ◌++◌, length, All, Option, Some, None, IfSome}
+use Rattle.std.specs.Prelude.{◌≡◌, ℕ, ◌+◌, ◌-◌, ◌^◌, ◌≤◌, min, if◌then◌else◌, List, [], ◌∷◌, ◌++◌, length, All, Option, Some, None, IfSome}
 use Rattle.std.specs.Option.{option_map}
 use Rattle.std.specs.List.{count_by}
 use Rattle.cd_base.specs.declared.hash.Hash256.{Hash256}

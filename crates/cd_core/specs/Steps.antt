@@ -1,12 +1,11 @@
 -- Inner: what the work of one call does to the keeper and the world, before its entry stands in the journal.
-use Rattle.std.specs.Prelude.{◌≡◌, ℕ, ◌≤◌, Bool, true, false, if◌then◌else◌, List, [], ◌∷◌, Option, Some, None, IfSome, Result, Ok, Err}
+use Rattle.std.specs.Prelude.{◌≡◌, ℕ, Bool, true, false, if◌then◌else◌, List, [], ◌∷◌, Option, Some, None, IfSome, Result, Err}
 use Rattle.cd_base.specs.declared.hash.Hash256.{Hash256}
 use Rattle.cd_base.specs.Counts.{one_more}
 use Rattle.cd_keeper.specs.Contents.{Contents, Change, changed}
 use Rattle.cd_keeper.specs.Keeping.{longer, IsApplied}
 use Rattle.cd_event.specs.declared.names.Who.{Who}
 use Rattle.cd_event.specs.declared.event.Event.{Event}
-use Rattle.cd_event.specs.declared.entry.Entry.{Entry}
 use Rattle.cd_event.specs.declared.entry.Reply.{Reply}
 use Rattle.cd_event.specs.declared.faults.UnpinFault.{UnpinFault}
 use Rattle.cd_event.specs.declared.faults.UnpinFault.TheVariants as unpin

@@ -2,7 +2,6 @@ use Rattle.std.proofs.Common.{◌≡◌, get_or, length, Some, sym, ap, ◌∙�
 use Rattle.std.specs.Prelude.{slice_get, ◌&&◌}
 use Rattle.std.proofs.lemmas.Option.{slice_get_read}
 use Rattle.cd_world.specs.Standing.{same_id}
-use Rattle.cd_world.specs.Changes.{goes_with}
 use Rattle.cd_core.proofs.Unpinned.{shared-stays, goes-is}
 use Rattle.cd_core.proofs.collecting.collected_place.Goals as goal
 

@@ -6,7 +6,7 @@ use Rattle.cd_keeper.specs.Contents.{Contents}
 use Rattle.cd_keeper.specs.Shown.{hash_bytes}
 use Rattle.cd_world.specs.World.{Block, World}
 use Rattle.cd_world.specs.Told.{ToldWorld, shown}
-use Rattle.cd_count.specs.Changes.{Rows, states, rep_bytes, AreTogether, AreCounted, AreAdded, AreDeadCells}
+use Rattle.cd_count.specs.Changes.{Rows, states, rep_bytes, AreTogether, AreAdded, AreDeadCells}
 use Rattle.cd_count.specs.SoundContents.{AreSoundContents}
 use Rattle.cd_core.specs.Cores.{Holds}
 use Rattle.cd_event.specs.Turning.{RisesOnly}

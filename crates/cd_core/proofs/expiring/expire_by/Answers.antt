@@ -1,4 +1,4 @@
-use Rattle.std.proofs.Common.{◌≡◌, ℕ, ◌+◌, List, map, not, sym, ap, ◌∙◌, arith}
+use Rattle.std.proofs.Common.{◌+◌, List, map, not, ap, ◌∙◌, arith}
 use Rattle.std.specs.Prelude.{◌&&◌}
 use Rattle.std.specs.List.{filter}
 use Rattle.cd_block.specs.declared.description.Descr.{Descr}

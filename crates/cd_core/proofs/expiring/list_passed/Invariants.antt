@@ -1,4 +1,4 @@
-use Rattle.std.proofs.Common.{◌≡◌, take}
+use Rattle.std.proofs.Common.{take}
 use Rattle.cd_core.specs.Passing.{ArePassed}
 use Rattle.cd_core.proofs.expiring.list_passed.Given as goal
 

@@ -1,4 +1,4 @@
-use Rattle.std.proofs.Common.{sym, refl}
+use Rattle.std.proofs.Common.{sym}
 use Rattle.cd_core.proofs.Begun.{looked-did, unlooked-did, forgot-did, faces-seen}
 use Rattle.std.proofs.Common.{length}
 use Rattle.cd_core.proofs.looking.look_under.Goals as goal

@@ -1,6 +1,5 @@
-use Rattle.std.proofs.Common.{◌≤◌, List, length, All, subst, take, take_all, arith}
+use Rattle.std.proofs.Common.{◌≤◌, length, All, subst, take_all, arith}
 use Rattle.std.proofs.lemmas.List.Elements.{recursion_from_All}
-use Rattle.cd_block.specs.declared.block.BlockId.{BlockId}
 use Rattle.cd_block.specs.Block.{IsBlockId}
 use Rattle.cd_core.proofs.placing.know_all.Goals as goal
 

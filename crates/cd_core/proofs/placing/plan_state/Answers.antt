@@ -1,20 +1,14 @@
-use Rattle.std.proofs.Common.{◌≡◌, ℕ, List, [], ◌∷◌, map, None, IfSome, refl, ap, ◌∙◌, subst}
-use Rattle.std.specs.Prelude.{Result, Ok, Err}
-use Rattle.cd_base.specs.declared.hash.Hash256.{Hash256}
+use Rattle.std.proofs.Common.{◌≡◌, List, [], ◌∷◌, None, IfSome}
 use Rattle.cd_cell.specs.Infos.{rep_of_info}
-use Rattle.cd_cell.specs.Listings.{Fits}
 use Rattle.cd_cell.specs.Tree.{Tree, rep_of}
 use Rattle.cd_keeper.specs.Contents.{Contents}
 use Rattle.cd_world.specs.World as trees
 use Rattle.cd_world.specs.World.{Block}
-use Rattle.cd_world.specs.Changes.{stored}
-use Rattle.cd_world.specs.Told.{ToldWorld, block_of, shown, with_stored, first_clash, first_overflow}
-use Rattle.cd_count.specs.declared.count_fault.CountFault.{CountFault}
-use Rattle.cd_count.specs.Changes.{Rows, AreAdded}
+use Rattle.cd_world.specs.Told.{ToldWorld, shown, first_clash, first_overflow}
+use Rattle.cd_count.specs.Changes.{AreAdded}
 use Rattle.cd_count.specs.Bringing.{IsBrought, unheld}
 use Rattle.cd_count.specs.Clashes.{RefusesClash, RefusesFull}
 use Rattle.cd_count.specs.SoundContents.{AreSoundContents}
-use Rattle.cd_core.specs.Cores.{Holds}
 use Rattle.cd_core.proofs.Planned.{of-some, judged, planned, by-ok}
 use Rattle.cd_core.proofs.placing.plan_state.Goals as goal
 

@@ -1,13 +1,8 @@
-use Rattle.std.proofs.Common.{◌≡◌, List, [], ◌∷◌, ◌++◌, map, Option, None, refl, sym, ap, ◌∙◌, subst}
-use Rattle.std.specs.Option.{option_and_then}
+use Rattle.std.proofs.Common.{List, [], ◌∷◌, ◌++◌, map, refl, sym, subst}
 use Rattle.std.specs.List.{IsDistinct}
 use Rattle.cd_block.specs.declared.block.BlockId.{BlockId}
 use Rattle.cd_block.specs.Block.{key_of}
-use Rattle.cd_event.specs.declared.faults.ZeroFault.{ZeroFault}
-use Rattle.cd_event.specs.Replies.{zero_refusal}
 use Rattle.cd_keeper.specs.NoKeyTwice.{same_key}
-use Rattle.cd_world.specs.Machine.{known, unrelated, other_root}
-use Rattle.std.specs.Option.{option_or}
 use Rattle.cd_core.proofs.Places.{one-key-alone}
 use Rattle.cd_core.proofs.ZeroDid.{zero-refused, zero-planless, zero-failed, zero-wanting, zero-stored}
 use Rattle.cd_core.proofs.storing.store_zero.Goals as goal

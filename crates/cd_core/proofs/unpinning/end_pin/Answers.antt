@@ -1,4 +1,4 @@
-use Rattle.std.proofs.Common.{◌≡◌, refl, sym, ◌∙◌}
+use Rattle.std.proofs.Common.{refl, sym, ◌∙◌}
 use Rattle.std.proofs.lemmas.Bool.{true≢false}
 use Rattle.cd_core.proofs.Ended.{still-did, gone-did, ungone-did, collects, collected-cells}
 use Rattle.cd_core.proofs.unpinning.end_pin.Goals as goal

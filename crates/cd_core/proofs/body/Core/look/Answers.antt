@@ -1,6 +1,5 @@
-use Rattle.std.proofs.Common.{◌≡◌, List, ◌++◌, Option, sym, ap, ◌∙◌, subst, length}
+use Rattle.std.proofs.Common.{◌++◌, Option, ap, ◌∙◌, subst, length}
 use Rattle.cd_event.specs.declared.event.Event.TheVariants.{Look}
-use Rattle.cd_event.specs.declared.entry.Entry.{Entry}
 use Rattle.cd_event.specs.declared.entry.Reply.{Reply}
 use Rattle.cd_event.specs.Replies.{entries_of, look_reply}
 use Rattle.cd_core.specs.Cores.{CoreView}

@@ -1,6 +1,5 @@
-use Rattle.std.proofs.Common.{◌≡◌, List, ◌++◌, Option, sym, ap, ◌∙◌, subst}
+use Rattle.std.proofs.Common.{List, ◌++◌, Option, ap, ◌∙◌, subst}
 use Rattle.cd_event.specs.declared.event.Event.TheVariants.{Unpin}
-use Rattle.cd_event.specs.declared.entry.Entry.{Entry}
 use Rattle.cd_event.specs.declared.entry.Reply.{Reply}
 use Rattle.cd_event.specs.Replies.{entries_of, unpin_reply}
 use Rattle.std.proofs.Common.{◌+◌, ◌*◌, ◌≤◌, length}

@@ -1,6 +1,5 @@
-use Rattle.std.proofs.Common.{◌≡◌, List, ◌++◌, Option, sym, ap, ◌∙◌, subst}
+use Rattle.std.proofs.Common.{◌++◌, Option, ap, ◌∙◌, subst}
 use Rattle.cd_event.specs.declared.event.Event.TheVariants.{Zero}
-use Rattle.cd_event.specs.declared.entry.Entry.{Entry}
 use Rattle.cd_event.specs.declared.entry.Reply.{Reply}
 use Rattle.cd_event.specs.Replies.{entries_of, zero_reply}
 use Rattle.cd_core.specs.Cores.{CoreView}
