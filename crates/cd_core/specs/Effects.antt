@@ -43,17 +43,6 @@ module _ {K : Type 0} (holds : K → Option Contents) (H : List ℕ → Hash256)
       pub told : IfSome answer (λ reply. IfSome (told_start holds start)
           (λ t. FollowsTold H start.limit (told_replay H t before) (entry_of who event reply)))
 
-    -- ---- what calls ask
-
-    -- The value was prepared over the states of these pins: it fits them, where they are told. So it is asked only
-    -- where the pins are live, and the value names the old tree's root.
-    abbrev pub MayStoreOver : CoreStart K → List (Entry X) → ℕ → ℕ → Option ℕ → PreparedView → Type 0
-    MayStoreOver start before worker pin other p = IfSome (told_start holds start) (λ t.
-        AllFollowTold H start.limit t before → (rows : List PinRow)
-        → let now = told_replay H t before in rows_at now.world worker pin other ≡ Some rows
-        → is_over p (old_info H (map (block_at now.world) (blocks_of rows))) ≡ true
-        → Fits H p.root p.cells (map now.state (blocks_of rows)))
-
     -- ---- what calls answer
 
     -- the pin has the root of the block's state

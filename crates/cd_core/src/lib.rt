@@ -6,7 +6,6 @@ mod body;
 mod collecting;
 mod expiring;
 mod looking;
-mod merging;
 mod pinning;
 mod placing;
 mod replying;
