@@ -238,3 +238,26 @@ module _ {K X : Type 0} (held : K → Option Contents) (H : List ℕ → Hash256
       → IfOk answer (λ found. AreSeen held H start es hashes (items found))
   seen-now items w start es k hashes (Ok found) is told = told-now (λ u. items found ≡ map (seen H u) hashes) w start es k is (λ u same h. told u h)
   seen-now items w start es k hashes (Err fault) is told = tt
+
+  -- a call on the keeper that changes nothing that it holds
+  pub kept-core : (w : World) (start : CoreStart K) (es : List (Entry X)) (k k' : K) → Keeps w start es k → KeepsHeld held trail batches k k' → faults k ≤ faults k' → Keeps w start es k'
+  kept-core w start es k k' is keeps later =
+      let core = is.1 in
+      (is.0, record {
+        follow = core.follow;
+        writable = core.writable;
+        numbered = core.numbered;
+        limited = core.limited;
+        is_batches = keeps.same_batches ∙ core.is_batches;
+        is_faults = let low = core.is_faults in omega (arith, later);
+        silent = λ none. keeps.same_held ∙ core.silent none;
+        told = if_told held start (λ t. IsHeld held H trail start.limit t es start.keeper.value k) (λ t. IsHeld held H trail start.limit t es start.keeper.value k')
+            (λ t at h.
+            let now = h.holds in
+            let was = h.trailed in
+            record {
+              follow = h.follow;
+              holds = record { contents = now.contents; is_held = keeps.same_held ∙ now.is_held; are = now.are };
+              trailed = record { more = was.more; is_trail = keeps.same_trail ∙ was.is_trail; are = was.are };
+            }) core.told;
+      })

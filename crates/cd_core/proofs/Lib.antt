@@ -14,6 +14,8 @@ pub mod Passed
 pub mod Places
 pub mod Planned
 pub mod Stores
+pub mod Totals
 pub mod Unpinned
+pub mod Walking
 pub mod Writable
 pub mod ZeroDid

@@ -3,3 +3,4 @@ pub mod Effects
 pub mod Passing
 pub mod Steps
 pub mod Storing
+pub mod Totalling
