@@ -1,9 +1,11 @@
 -- Blocks expire: what becomes of the keeper's contents, and the step of the machine.
-use Rattle.std.proofs.Common.{◌≡◌, ℕ, ◌≤◌, Bool, true, false, cond, not, List, [], ◌∷◌, ◌++◌, map, length, Option, Some, None, Contains, refl, sym, ap, ap₂, ◌∙◌, subst, subst₂, arith}
+use Rattle.std.proofs.Common.{◌≡◌, ℕ, ◌+◌, ◌*◌, ◌<◌, ◌≤◌, zero, suc, Bool, true, false, cond, not, List, [], ◌∷◌, ◌++◌, map, length, Option, Some, None, Contains, refl, sym, ap, ap₂, ◌∙◌, subst, subst₂, arith}
 use Rattle.std.specs.Prelude.{◌&&◌, nat_lt, Result, Ok, Err}
-use Rattle.std.specs.List.{filter, AllByRecursion, IsDistinct}
+use Rattle.std.specs.Option.{option_map, option_or}
+use Rattle.std.specs.List.{filter, list_any, AllByRecursion, IsDistinct}
 use Rattle.std.specs.Map.{keys_of}
-use Rattle.std.proofs.lemmas.Bool.{ltb-false}
+use Rattle.std.proofs.lemmas.Bool.{true≢false, ltb-false}
+use Rattle.std.proofs.lemmas.List.{length-map}
 use Rattle.std.proofs.lemmas.List.Elements.{All-contains}
 use Rattle.cd_base.specs.declared.hash.Hash256.{Hash256}
 use Rattle.cd_base.specs.Counts.{Rose}
@@ -14,7 +16,8 @@ use Rattle.cd_block.specs.Description.{IsDescrFit}
 use Rattle.cd_cell.specs.Tree.{Tree}
 use Rattle.cd_cell.proofs.Subtrees.{Contains-first, Contains-later, Contains-map}
 use Rattle.cd_keeper.specs.Contents.{Contents, Change, changed}
-use Rattle.cd_keeper.specs.Keeping.{KeepsHeld, IsApplied}
+use Rattle.cd_keeper.specs.declared.fault.KeepFault.{KeepFault}
+use Rattle.cd_keeper.specs.Keeping.{KeepsHeld, IsApplied, HasKeepCause}
 use Rattle.cd_keeper.specs.NoKeyTwice.{same_key}
 use Rattle.cd_keeper.specs.Shown.{hash_bytes}
 use Rattle.cd_nodes.specs.Graphs as nodes
@@ -38,13 +41,18 @@ use Rattle.cd_world.specs.ToldTrees.{HasBytes}
 use Rattle.cd_world.specs.Told.{ToldWorld, block_of, shown, IsSound, IsSoundBlock}
 use Rattle.cd_world.proofs.Orders.{Contains-filter}
 use Rattle.cd_world.proofs.TidyWorlds.{id-marked}
-use Rattle.cd_count.specs.Changes.{states, cell_graph, rep_bytes, Rows, AreTogether, AreCounted, DescsLead, IsCellBatch}
+use Rattle.cd_count.specs.declared.count_fault.CountFault.{CountFault}
+use Rattle.cd_count.specs.declared.count_fault.CountFault.TheVariants as count
+use Rattle.cd_count.specs.Clashes.{IsOutside}
+use Rattle.cd_count.specs.Reading.{IsCaused}
+use Rattle.cd_count.specs.Changes.{states, cell_graph, rep_bytes, Rows, AreTogether, AreCounted, AreDeadCells, DescsLead, IsCellBatch}
 use Rattle.cd_count.specs.PlanRows.{AreOfBytes, descr_puts}
 use Rattle.cd_count.specs.SoundContents.{AreSoundContents}
 use Rattle.cd_count.proofs.Changes.{leads}
-use Rattle.cd_core.specs.Cores.{IsWritable}
+use Rattle.cd_core.specs.Cores.{IsWritable, Holds}
 use Rattle.cd_core.specs.Steps.{Did, Batches}
-use Rattle.cd_core.specs.Passing.{is_left, told_passed, IsUnexpirable}
+use Rattle.cd_core.specs.Effects.{AreExpired, dropped_by}
+use Rattle.cd_core.specs.Passing.{is_left, keep_of, told_passed, IsUnexpirable}
 use Rattle.cd_core.proofs.Apart.{keys-apart-in}
 use Rattle.cd_core.proofs.DescrTables.{key, descs-lead}
 use Rattle.cd_core.proofs.Doings.{memory-did, refused-did, failed-did, quiet-did, batch-did, contents-blocks}
@@ -188,7 +196,7 @@ module _ {K : Type 0} (held : K → Option Contents) (H : List ℕ → Hash256) 
 
   -- what a plan tells, whichever world with trees it is of
   abbrev pub PlansGone : K → List Hash256 → Rows → Type 0
-  PlansGone k roots plan = (t : ToldWorld) (left : trees.World) (gone : List Block) (contents : Contents) → held k ≡ Some contents → AreSoundContents H t contents
+  PlansGone k roots plan = (t : ToldWorld) (left : trees.World) (gone : List Block) → Holds held H t k
       → (let all = shown t in AreTogether H left.blocks gone all.blocks) → map (rep_bytes H) (states gone) ≡ map hash_bytes roots
       → (dead : List Tree) × AreCounted H (shown t) (shown t) left [] gone [] dead plan
 
@@ -206,9 +214,47 @@ module _ {K : Type 0} (held : K → Option Contents) (H : List ℕ → Hash256) 
         let drops_t : change.drop_descs ≡ map key (filter (goes_at_once t.world m) t.world.blocks) =
         subst (λ (v : World). change.drop_descs ≡ map key (filter (goes_at_once v m) v.blocks)) (sym same) (drops ∙ ap (map key_of) ids_are ∙ ids-are (filter (goes_at_once w m) w.blocks)) in
         let roots_t : roots ≡ map (λ d. d.root) (filter (goes_at_once t.world m) t.world.blocks) = subst (λ (v : World). roots ≡ map (λ d. d.root) (filter (goes_at_once v m) v.blocks)) (sym same) roots_are in
-        let plan_of = plans t (shown (told_passed m t)) (gone H m t) contents said so (together H m t) (roots-gone H m t sound ∙ ap (map hash_bytes) (sym roots_t)) in
+        let plan_of = plans t (shown (told_passed m t)) (gone H m t) (record { contents = contents; is_held = said; are = so }) (together H m t) (roots-gone H m t sound ∙ ap (map hash_bytes) (sym roots_t)) in
         contents-passed H m t sound (subst IsWritable (sym same) ready) plan_of.0 plan plan_of.1 change cells bytes puts_t drops_t contents so.are so.bytes;
   }
+
+  -- and what it reads
+  abbrev pub PlansReads : ℕ → ℕ → K → List Hash256 → Type 0
+  PlansReads before after k roots = (t : ToldWorld) (left : trees.World) (gone : List Block) (dead : List Tree) → Holds held H t k
+      → (let all = shown t in AreTogether H left.blocks gone all.blocks) → map (rep_bytes H) (states gone) ≡ map hash_bytes roots
+      → (let all = shown t in AreDeadCells H all.blocks gone dead) → after ≤ before + (4 * length dead + length roots)
+
+  pub passed-reads : (before after : ℕ) (k : K) (roots : List Hash256) → roots ≡ map (λ d. d.root) (filter (goes_at_once w m) w.blocks) → PlansReads before after k roots
+      → (t : ToldWorld) (dead : List Tree) → t.world ≡ w → Holds held H t k → (let all = shown t in AreDeadCells H all.blocks (gone H m t) dead)
+      → after ≤ before + (4 * length dead + length (gone H m t))
+  passed-reads before after k roots roots_are read t dead same h ended =
+      let so = h.are in
+      let roots_t : roots ≡ map (λ d. d.root) (filter (goes_at_once t.world m) t.world.blocks) = subst (λ (v : World). roots ≡ map (λ d. d.root) (filter (goes_at_once v m) v.blocks)) (sym same) roots_are in
+      let many : length roots ≡ length (gone H m t) =
+      ap length roots_t ∙ length-map (filter (goes_at_once t.world m) t.world.blocks) (λ (d : Descr). d.root) ∙ sym (length-map (filter (goes_at_once t.world m) t.world.blocks) (block_of t)) in
+      let most = read t (shown (told_passed m t)) (gone H m t) dead h (together H m t) (roots-gone H m t so.sound ∙ ap (map hash_bytes) (sym roots_t)) ended in
+      subst (λ n. after ≤ before + (4 * length dead + n)) many most
+
+-- ---- faults and reads
+
+-- a plan's fault has the keeper's cause
+pub keep-caused : {T : Type 0} (fault : CountFault) (given : KeepFault) (before now : ℕ) → given ≡ keep_of fault → IsOutside fault → before ≤ now → IsCaused before now fault → HasKeepCause {T = T} before now (Err given)
+keep-caused {T} fault given before now is outside later caused =
+    subst (λ (f : KeepFault). HasKeepCause {T = T} before now (Err f)) (sym is) (by fault outside caused)
+  where
+    by : (f : CountFault) → IsOutside f → IsCaused before now f → HasKeepCause {T = T} before now (Err (keep_of f))
+    by count.Memory out is_caused = record { later = later; steady = tt; caused = is_caused }
+    by count.Keeper out is_caused = record { later = later; steady = tt; caused = is_caused }
+    by (count.Clash hash stored offered) out is_caused = absurd out
+    by (count.CountFull hash n) out is_caused = absurd out
+
+-- what is read of the blocks that a masterchain block drops
+pub reads-at : (H : List ℕ → Hash256) (before after : ℕ) (t : ToldWorld) (w : World) (id : BlockId) (m : Descr) (dead : List Tree) → t.world ≡ w → kept_at w id ≡ Some m
+    → ((let all = shown t in AreDeadCells H all.blocks (dropped_by H t (Some m)) dead) → after ≤ before + (4 * length dead + length (dropped_by H t (Some m))))
+    → AreExpired H t id dead → after ≤ before + (4 * length dead + length (dropped_by H t (kept_at t.world id)))
+reads-at H before after t w id m dead same at read =
+    let at_t = subst (λ x. kept_at x id ≡ Some m) (sym same) at in
+    subst (λ (o : Option Descr). (let all = shown t in AreDeadCells H all.blocks (dropped_by H t o) dead) → after ≤ before + (4 * length dead + length (dropped_by H t o))) (sym at_t) read
 
 -- ---- the step
 

@@ -21,7 +21,7 @@ use Rattle.cd_world.specs.declared.world.PinRow.{PinRow}
 use Rattle.cd_world.specs.declared.world.Totals.{Totals}
 use Rattle.cd_world.specs.World.{Block}
 use Rattle.cd_world.specs.Standing.{kept_at, block_at, pin_at}
-use Rattle.cd_world.specs.Changes.{goes_with}
+use Rattle.cd_world.specs.Changes.{goes_with, goes_at_once}
 use Rattle.cd_world.specs.Machine.{root_info, rows_at, blocks_of, is_over, old_info}
 use Rattle.cd_world.specs.Following.{Follows}
 use Rattle.cd_world.specs.Told.{ToldWorld, told_replay, shown, block_of, FollowsTold, AllFollowTold, seen, held, count}
@@ -73,3 +73,13 @@ module _ (H : List ℕ → Hash256) where
   abbrev pub AreCollected : ToldWorld → ℕ → ℕ → List Tree → Type 0
   AreCollected t worker pin dead =
       let all = shown t in AreDeadCells H all.blocks (collected_by t (pin_at t.world worker pin)) dead
+
+  -- the blocks that go as a masterchain block lets others expire
+  abbrev pub dropped_by : ToldWorld → Option Descr → List Block
+  dropped_by t None = []
+  dropped_by t (Some m) = map (block_of t) (filter (goes_at_once t.world m) t.world.blocks)
+
+  -- the cells that go with them
+  abbrev pub AreExpired : ToldWorld → BlockId → List Tree → Type 0
+  AreExpired t id dead =
+      let all = shown t in AreDeadCells H all.blocks (dropped_by t (kept_at t.world id)) dead

@@ -1,5 +1,5 @@
 //! Blocks expire.
-ghost use Rattle.std.specs.Prelude.{◌≡◌, ◌≤◌, ◌+◌, ◌*◌, ◌^◌, ◌<◌, ◌++◌, ◌∷◌, ℕ, [], List, length, false, true, map, IfOk, IfErr, OnOk, OnErr, Some, None};
+ghost use Rattle.std.specs.Prelude.{◌≡◌, ◌≤◌, ◌+◌, ◌*◌, ◌^◌, ◌<◌, ◌++◌, ◌∷◌, ℕ, [], List, length, false, true, map, IfOk, IfErr, OnOk, OnErr, IfSome, Some, None};
 ghost use Rattle.std.specs.Option.{option_copied};
 ghost use Rattle.cd_record.specs.declared.limits.TheConstants.{GREATEST_COUNT};
 ghost use Rattle.cd_event.specs.declared.event.Event.TheVariants.{Expire};
@@ -9,10 +9,16 @@ ghost use Rattle.cd_keeper.specs.Keeping.{KeepsHeld, HasKeepCause};
 ghost use Rattle.cd_world.specs.Standing.{kept_at, expired};
 ghost use Rattle.cd_block.specs.declared.description.Descr.{Descr};
 ghost use Rattle.cd_world.specs.Machine.{unexpirable, first_missing};
-ghost use Rattle.cd_core.specs.Cores.{IsWritable};
-ghost use Rattle.cd_core.specs.Effects.{Adds};
+ghost use Rattle.cd_cell.specs.Tree.{Tree};
+ghost use Rattle.cd_world.specs.Told.{ToldWorld, shown, told_replay};
+ghost use Rattle.cd_keeper.specs.Shown.{hash_bytes};
+ghost use Rattle.cd_world.specs.World as trees;
+ghost use Rattle.cd_world.specs.World.{Block};
+ghost use Rattle.cd_count.specs.Changes.{states, rep_bytes, AreTogether, AreCounted, AreDeadCells};
+ghost use Rattle.cd_core.specs.Cores.{IsWritable, Holds, told_start};
+ghost use Rattle.cd_core.specs.Effects.{Adds, AreExpired, dropped_by};
 ghost use Rattle.cd_core.specs.Steps.{Did, Batches};
-ghost use Rattle.cd_core.specs.Passing.{IsUnexpirable, ArePassed, told_passed};
+ghost use Rattle.cd_core.specs.Passing.{IsUnexpirable, ArePassed, keep_of, told_passed};
 
 use crate::body::{Core, make_room, note};
 use crate::placing::copy_descr;
@@ -27,14 +33,19 @@ use cd_world::{World, find_kept, is_expired, is_pinned};
 use std::alloc::Global;
 
 impl<K: Keeper, H: Hash32> Core<K, H> {
-    /// Drops the blocks that a masterchain block and its shard tops have passed, in one batch, but for pinned ones, which
-    /// are leaving from then on. The answer is the number of both; where it is 0 no batch is made.
+    /// Drops the blocks that a masterchain block and its shard tops have passed, in one batch, but for pinned
+    /// ones, which are leaving from then on. The answer is the number of both; where it is 0 no batch is made.
+    /// Reads at most 4 records for each cell that goes, and one for each block that does.
     pub fn expire(&mut self, who: Who, id: BlockId) -> Result<u64, ExpireFault>
         ensures start { self.new.start ≡ self.old.start }
         ensures adds { Adds K.held H.digest_of self.old.start self.old.journal who (Expire id)
             (expire_reply result) self.new.journal }
         ensures cause { RisesOnly (is_keeper (expire_reply result))
             (K.faults self.old.keeper) (K.faults self.new.keeper) }
+        ensures reads { IfSome (told_start K.held self.old.start) (λ t. (dead : List Tree)
+            → let now = told_replay H.digest_of t self.old.journal in AreExpired H.digest_of now id dead
+            → K.reads self.new.keeper ≤ K.reads self.old.keeper
+            + (4 * length dead + length (dropped_by H.digest_of now (kept_at now.world id)))) }
     {
         let Ok(()) = make_room(&mut self.journal, who) else {
             return Err(ExpireFault::Memory);
@@ -46,8 +57,8 @@ impl<K: Keeper, H: Hash32> Core<K, H> {
     }
 }
 
-/// The blocks that a masterchain block has passed: the roots and the ids of those that go, and those with a pin as they
-/// are from then on.
+/// The blocks that a masterchain block has passed: the roots and the ids of those that go, and those with a pin
+/// as they are from then on.
 #[derive(Drop)]
 struct Passed {
     roots: Vec<Hash256>,
@@ -67,6 +78,11 @@ fn expire_by<K: Keeper, H: Hash32>(
     ensures did { (limit : ℕ) → limit ≤ GREATEST_COUNT
         → Did K.held H.digest_of K.trail {X = H} K.batches K.faults limit world.old keeper.old who
         (Expire id.now) (expire_reply result) world.new keeper.new }
+    ensures reads { (t : ToldWorld) (dead : List Tree)
+        → t.world ≡ world.old → Holds K.held H.digest_of t keeper.old
+        → AreExpired H.digest_of t id.now dead
+        → K.reads keeper.new ≤ K.reads keeper.old
+        + (4 * length dead + length (dropped_by H.digest_of t (kept_at t.world id.now))) }
 {
     let master = match master_at(alloc, world, id) {
         Ok(master) => master,
@@ -154,16 +170,59 @@ fn drop_passed<K: Keeper, H: Hash32>(
         (told_passed master.now) keeper.old keeper.new) }
     ensures undone { OnErr result (KeepsHeld K.held K.trail K.batches keeper.old keeper.new) }
     ensures cause { HasKeepCause (K.faults keeper.old) (K.faults keeper.new) result }
+    ensures reads { (t : ToldWorld) (dead : List Tree)
+        → t.world ≡ world.now → Holds K.held H.digest_of t keeper.old
+        → (let all = shown t in AreDeadCells H.digest_of all.blocks
+        (dropped_by H.digest_of t (Some master.now)) dead)
+        → K.reads keeper.new ≤ K.reads keeper.old
+        + (4 * length dead + length (dropped_by H.digest_of t (Some master.now))) }
 {
-    let plan = match plan_drop(alloc, keeper, Plan::empty(alloc), passed.roots.as_slice()) {
+    let plan = match plan_going::<K, H>(alloc, keeper, passed.roots.as_slice()) {
         Ok(plan) => plan,
-        Err(CountFault::Memory) => return Err(KeepFault::Memory),
-        Err(_) => return Err(KeepFault::Failed),
+        Err(fault) => return Err(fault),
     };
     let Ok(batch) = plan.into_batch(alloc, passed.leaving, passed.gone) else {
         return Err(KeepFault::Memory);
     };
     keeper.apply(&batch)
+}
+
+/// The plan by which blocks with these roots go.
+fn plan_going<K: Keeper, H: Hash32>(
+    alloc: Global,
+    keeper: &mut K,
+    roots: &[Hash256],
+) -> Result<Plan, KeepFault>
+    ensures dropped { IfOk result (λ plan. (t : ToldWorld) (left : trees.World) (gone : List Block)
+        → Holds K.held H.digest_of t keeper.old
+        → (let all = shown t in AreTogether H.digest_of left.blocks gone all.blocks)
+        → map (rep_bytes H.digest_of) (states gone) ≡ map hash_bytes roots.now
+        → (dead : List Tree) × AreCounted H.digest_of (shown t) (shown t) left [] gone [] dead plan) }
+    ensures reads { (t : ToldWorld) (left : trees.World) (gone : List Block) (dead : List Tree)
+        → Holds K.held H.digest_of t keeper.old
+        → (let all = shown t in AreTogether H.digest_of left.blocks gone all.blocks)
+        → map (rep_bytes H.digest_of) (states gone) ≡ map hash_bytes roots.now
+        → (let all = shown t in AreDeadCells H.digest_of all.blocks gone dead)
+        → K.reads keeper.new ≤ K.reads keeper.old + (4 * length dead + length roots.now) }
+    ensures keeps { KeepsHeld K.held K.trail K.batches keeper.old keeper.new }
+    ensures cause { HasKeepCause (K.faults keeper.old) (K.faults keeper.new) result }
+{
+    match plan_drop(alloc, keeper, Plan::empty(alloc), roots) {
+        Ok(plan) => Ok(plan),
+        Err(fault) => Err(keep_fault(fault)),
+    }
+}
+
+/// A plan's fault from outside as the keeper's.
+fn keep_fault(fault: CountFault) -> KeepFault
+    ensures { result ≡ keep_of fault }
+{
+    match fault {
+        CountFault::Memory => KeepFault::Memory,
+        CountFault::Keeper => KeepFault::Failed,
+        CountFault::Clash { .. } => KeepFault::Failed,
+        CountFault::CountFull { .. } => KeepFault::Failed,
+    }
 }
 
 /// Adds a block, if it expires.

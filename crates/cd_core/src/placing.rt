@@ -109,7 +109,8 @@ pub(crate) fn copy_descr(alloc: Global, descr: &Descr) -> Result<Descr, Memory>
 /// The place of a block in the order of ids.
 fn block_place(blocks: &[Descr], id: &BlockId) -> usize
     ensures within { result ≤ length blocks.now }
-    ensures place { (d : Descr) → d.id ≡ id.now → insert blocks.now result d ≡ placed d blocks.now }
+    ensures place { (d : Descr) → d.id ≡ id.now
+        → insert blocks.now result d ≡ placed d blocks.now }
 {
     for (place, block) in blocks.iter().enumerate() {
         if id.cmp(&block.id).is_lt() {
@@ -153,8 +154,8 @@ pub(crate) fn plan_state<K: Keeper, H: Hash32>(
     plan_add(alloc, keeper, prepared, limit)
 }
 
-/// Puts a block into the world and, by a plan that has its references, into the keeper, from which these blocks go.
-/// Each growth comes before the batch.
+/// Puts a block into the world and, by a plan that has its references, into the keeper, from which these
+/// blocks go. Each growth comes before the batch.
 pub(crate) fn store_block<K: Keeper>(
     alloc: Global,
     keeper: &mut K,
@@ -166,7 +167,8 @@ pub(crate) fn store_block<K: Keeper>(
     requires fit { IsDescrFit descr }
     requires once { IsDistinct same_key (map key_of gone.items ++ key_of descr.id ∷ []) }
     ensures world { OnOk result (world.new ≡ with_block world.old descr) }
-    ensures made { OnOk result (IsPlanMade K.held K.trail K.batches plan descr gone.items keeper.old keeper.new) }
+    ensures made { OnOk result (IsPlanMade K.held K.trail K.batches
+        plan descr gone.items keeper.old keeper.new) }
     ensures still { OnErr result (world.new ≡ world.old) }
     ensures undone { OnErr result (KeepsHeld K.held K.trail K.batches keeper.old keeper.new) }
     ensures cause { HasKeepCause (K.faults keeper.old) (K.faults keeper.new) result }
