@@ -1,5 +1,4 @@
-//! The core of the store on one thread: six event calls over a keeper, a world and a journal, each one step of the
-//! machine.
+//! The core of the store on one thread: event calls over a keeper, a world and a journal, each one step of the machine.
 #![tactic(auto)]
 
 mod body;
