@@ -7,10 +7,10 @@ use cd_base::{Hash256, Memory};
 use cd_cell::Face;
 use lru::LruCache;
 
-// Faces by their hashes, the last used first.
+/// Faces by their hashes, the last used first.
 pub type Cache = LruCache<Hash256, Face>;
 
-// The face that is held under a hash. It is then the last used.
+/// The face that is held under a hash. It is then the last used.
 pub fn recall(held: &mut Cache, hash: &Hash256) -> Option<Face>
     ensures value { result ≡ held_at held.old.entries hash.now }
     ensures held { held.new.entries ≡ held_after hash.now result held.old.cap held.old.entries }
@@ -23,7 +23,7 @@ pub fn recall(held: &mut Cache, hash: &Hash256) -> Option<Face>
     Some(face)
 }
 
-// Holds a face under a hash that isn't held. At want of memory nothing changes.
+/// Holds a face under a hash that isn't held. At want of memory nothing changes.
 pub fn hold(held: &mut Cache, hash: &Hash256, face: &Face) -> Result<(), Memory>
     requires { held_at held.old.entries hash.now ≡ None }
     ensures held { OnOk result

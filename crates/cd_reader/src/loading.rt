@@ -11,7 +11,7 @@ use cd_cell::Face;
 use cd_event::{LookFault, LookUp};
 use cd_looks::look_once;
 
-// One look of one hash that isn't held. A face that it finds is held from then on.
+/// One look of one hash that isn't held. A face that it finds is held from then on.
 pub fn look_and_hold<L: LookUp>(
     look: &mut L,
     held: &mut Cache,

@@ -166,7 +166,7 @@ impl<L: LookUp> Reader<L> {
         Ok(face)
     }
 
-    // `load`, where a face that isn't given counts as that of the empty cell.
+    /// `load`, where a face that isn't given counts as that of the empty cell.
     fn visit(&mut self, hash: &Hash256) -> Result<Face, LookFault>
         requires { L.ready self.old.look }
         ensures ready { L.ready self.new.look }

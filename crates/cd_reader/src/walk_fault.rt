@@ -18,7 +18,7 @@ pub enum WalkFault {
     Memory,
 }
 
-// A look's fault as a walk's: want of memory is its own.
+/// A look's fault as a walk's: want of memory is its own.
 pub fn walk_fault(fault: LookFault) -> WalkFault
     ensures { result ≡ walk_fault fault }
 {

@@ -1,3 +1,5 @@
+ghost use Rattle.std.specs.Prelude.{◌≡◌};
+
 use cd_base::{Hash256, one_more};
 use cd_cell::{Face, Sha};
 use cd_event::{LookFault, LookUp};
@@ -22,7 +24,9 @@ impl ListedLook {
     }
 
     /// How many hashes were asked.
-    pub fn asked(&self) -> u64 {
+    pub fn asked(&self) -> u64
+        ensures { result ≡ self.now.asked }
+    {
         self.asked
     }
 
