@@ -1,10 +1,9 @@
 -- Blocks expire: what becomes of the keeper's contents, and the step of the machine.
-use Rattle.std.proofs.Common.{◌≡◌, ℕ, ◌+◌, ◌*◌, ◌<◌, ◌≤◌, zero, suc, Bool, true, false, cond, not, List, [], ◌∷◌, ◌++◌, map, length, Option, Some, None, Contains, refl, sym, ap, ap₂, ◌∙◌, subst, subst₂, arith}
+use Rattle.std.proofs.Common.{◌≡◌, ℕ, ◌+◌, ◌*◌, ◌≤◌, Bool, true, false, cond, not, List, [], ◌∷◌, ◌++◌, map, length, Option, Some, None, Contains, refl, sym, ap, ap₂, ◌∙◌, subst, subst₂, arith}
 use Rattle.std.specs.Prelude.{◌&&◌, nat_lt, Result, Ok, Err}
-use Rattle.std.specs.Option.{option_map, option_or}
-use Rattle.std.specs.List.{filter, list_any, AllByRecursion, IsDistinct}
+use Rattle.std.specs.List.{filter, AllByRecursion, IsDistinct}
 use Rattle.std.specs.Map.{keys_of}
-use Rattle.std.proofs.lemmas.Bool.{true≢false, ltb-false}
+use Rattle.std.proofs.lemmas.Bool.{ltb-false}
 use Rattle.std.proofs.lemmas.List.{length-map}
 use Rattle.std.proofs.lemmas.List.Elements.{All-contains}
 use Rattle.cd_base.specs.declared.hash.Hash256.{Hash256}
@@ -47,7 +46,6 @@ use Rattle.cd_count.specs.Clashes.{IsOutside}
 use Rattle.cd_count.specs.Reading.{IsCaused}
 use Rattle.cd_count.specs.Changes.{states, cell_graph, rep_bytes, Rows, AreTogether, AreCounted, AreDeadCells, DescsLead, IsCellBatch}
 use Rattle.cd_count.specs.PlanRows.{AreOfBytes, descr_puts}
-use Rattle.cd_count.specs.SoundContents.{AreSoundContents}
 use Rattle.cd_count.proofs.Changes.{leads}
 use Rattle.cd_core.specs.Cores.{IsWritable, Holds}
 use Rattle.cd_core.specs.Steps.{Did, Batches}

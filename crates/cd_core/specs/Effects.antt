@@ -1,14 +1,12 @@
 -- Trusted: what the calls of a core ask and do, by what the core began with and its entries before: so that others may
 -- call it in between.
-use Rattle.std.specs.Prelude.{◌≡◌, ℕ, ◌-◌, ◌^◌, min, true, List, [], ◌++◌, length, map, filter, Option, Some, None, IfSome}
+use Rattle.std.specs.Prelude.{◌≡◌, ℕ, ◌-◌, ◌^◌, min, List, [], ◌++◌, length, map, filter, Option, Some, None, IfSome}
 use Rattle.std.specs.List.{sum_by}
 use Rattle.std.specs.FinMap as finite
 use Rattle.cd_base.specs.declared.hash.Hash256.{Hash256}
 use Rattle.cd_block.specs.declared.block.BlockId.{BlockId}
 use Rattle.cd_block.specs.declared.description.Descr.{Descr}
 use Rattle.cd_cell.specs.FaceView.{FaceView}
-use Rattle.cd_cell.specs.Listings.{Fits}
-use Rattle.cd_cell.specs.PreparedView.{PreparedView}
 use Rattle.cd_cell.specs.Tree.{Tree}
 use Rattle.cd_keeper.specs.Contents.{Contents}
 use Rattle.cd_event.specs.declared.names.Who.{Who}
@@ -20,11 +18,11 @@ use Rattle.cd_event.specs.Replies.{entry_of, entries_of}
 use Rattle.cd_world.specs.declared.world.PinRow.{PinRow}
 use Rattle.cd_world.specs.declared.world.Totals.{Totals}
 use Rattle.cd_world.specs.World.{Block}
-use Rattle.cd_world.specs.Standing.{kept_at, block_at, pin_at}
+use Rattle.cd_world.specs.Standing.{kept_at, pin_at}
 use Rattle.cd_world.specs.Changes.{goes_with, goes_at_once}
-use Rattle.cd_world.specs.Machine.{root_info, rows_at, blocks_of, is_over, old_info}
+use Rattle.cd_world.specs.Machine.{root_info}
 use Rattle.cd_world.specs.Following.{Follows}
-use Rattle.cd_world.specs.Told.{ToldWorld, told_replay, shown, block_of, FollowsTold, AllFollowTold, seen, held, count}
+use Rattle.cd_world.specs.Told.{ToldWorld, told_replay, shown, block_of, FollowsTold, seen, held, count}
 use Rattle.cd_count.specs.Changes.{AreDeadCells}
 use Rattle.cd_core.specs.declared.start.CoreStart.{CoreStart}
 use Rattle.cd_core.specs.Cores.{world_after, told_start}

@@ -1,6 +1,5 @@
 -- Trusted: how the command `zero` ends: what each status says of the input, the output and the keeper.
 use Rattle.std.specs.Prelude.{◌≡◌, ◌≢◌, ℕ, ◌<◌, ◌≤◌, List, [], ◌∷◌, length, Some, is_some, IfSome}
-use Rattle.std.specs.Option.{option_map}
 use Rattle.cd_base.specs.declared.hash.Hash256.{Hash256}
 use Rattle.cd_base.specs.declared.source.Source.{Ghosts as SourceGhosts}
 use Rattle.cd_base.specs.declared.sink.Sink.{Ghosts as SinkGhosts}
@@ -12,7 +11,7 @@ use Rattle.cd_keeper.specs.Contents.{Change}
 use Rattle.cd_keeper.specs.Keeping.{longer, IsApplied, KeepsHeld}
 use Rattle.cd_boc_read.specs.Grammar.{Spells}
 use Rattle.cd_boc_read.specs.BagFaults.{bag_fault}
-use Rattle.cd_world.specs.Image.{change_of, IsContentsOf, IsPlain}
+use Rattle.cd_world.specs.Image.{IsContentsOf, IsPlain}
 use Rattle.cd_top.specs.declared.status.Status.{Status}
 use Rattle.cd_top.specs.declared.status.Status.TheVariants as status
 use Rattle.cd_top.specs.declared.status.InputFault.TheVariants as input

@@ -1,4 +1,4 @@
-use Rattle.std.proofs.Common.{◌≡◌, ℕ, ◌+◌, ◌*◌, ◌≤◌, List, map, length, sym, ap, ◌∙◌, subst}
+use Rattle.std.proofs.Common.{◌+◌, ◌*◌, ◌≤◌, List, map, length, sym, ap, ◌∙◌, subst}
 use Rattle.cd_base.specs.declared.hash.Hash256.{Hash256}
 use Rattle.cd_keeper.specs.Shown.{hash_bytes}
 use Rattle.cd_core.proofs.Expired.{fit-left, once-in, passed-leads, passed-reads}

@@ -1,10 +1,9 @@
-use Rattle.std.proofs.Common.{◌≡◌, ◌+◌, ◌*◌, ◌≤◌, List, ◌++◌, length, Option, sym, ap, ◌∙◌, subst}
+use Rattle.std.proofs.Common.{◌+◌, ◌*◌, ◌≤◌, List, ◌++◌, length, Option, ap, ◌∙◌, subst}
 use Rattle.std.specs.Prelude.{IfSome}
 use Rattle.cd_cell.specs.Tree.{Tree}
 use Rattle.cd_world.specs.Standing.{kept_at}
 use Rattle.cd_world.specs.Told.{told_replay}
 use Rattle.cd_event.specs.declared.event.Event.TheVariants.{Expire}
-use Rattle.cd_event.specs.declared.entry.Entry.{Entry}
 use Rattle.cd_event.specs.declared.entry.Reply.{Reply}
 use Rattle.cd_event.specs.Replies.{entries_of, expire_reply}
 use Rattle.cd_core.specs.Cores.{CoreView, told_start}
