@@ -7,9 +7,11 @@ pub mod Doings
 pub mod Dropped
 pub mod Ended
 pub mod Expired
+pub mod InTurn
 pub mod Journaling
 pub mod Keepings
 pub mod Leading
+pub mod Merged
 pub mod Passed
 pub mod Places
 pub mod Planned

@@ -19,7 +19,7 @@ use Rattle.cd_world.proofs.Held.{same_bytes, bytes_tie}
 use Rattle.cd_world.proofs.Orders.{Contains-filter}
 use Rattle.cd_world.proofs.TidyWorlds.{id-marked}
 use Rattle.cd_core.specs.Passing.{is_left, ArePassed}
-use Rattle.cd_core.proofs.DescrTables.{key, look, look-none, look-filtered, other-of, HaveKeysApart}
+use Rattle.cd_core.proofs.DescrTables.{key, look, look-none, look-filtered, other-of, symmetric, HaveKeysApart}
 
 module _ (w : World) (m : Descr) where
   abbrev goes : Descr → Bool
@@ -126,13 +126,6 @@ module _ (w : World) (m : Descr) where
   all-join : {A : Type 0} (P : A → Type 0) (xs ys : List A) → AllByRecursion P xs → AllByRecursion P ys → AllByRecursion P (xs ++ ys)
   all-join P [] ys p q = q
   all-join P (x ∷ xs) ys p q = (p.0, all-join P xs ys p.1 q)
-
-  symmetric : (a b : List ℕ) → same_key a b ≡ false → same_key b a ≡ false
-  symmetric a b e = by (same_key b a) refl
-    where
-      by : (c : Bool) → same_key b a ≡ c → same_key b a ≡ false
-      by true f = absurd (true≢false (sym (bytes_tie a b (sym (same_bytes b a f))) ∙ e))
-      by false f = f
 
   all-insert : (P : List ℕ → Type 0) (xs ys : List (List ℕ)) (k : List ℕ) → P k → AllByRecursion P (xs ++ ys) → AllByRecursion P (xs ++ k ∷ ys)
   all-insert P [] ys k here all = (here, all)

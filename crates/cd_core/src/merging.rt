@@ -1,15 +1,53 @@
 //! A block is stored over pinned parents.
-ghost use Rattle.std.specs.Prelude.{◌≡◌, ◌≤◌, ◌+◌, ◌*◌, [], length, IfOk};
+ghost use Rattle.std.specs.Prelude.{◌≡◌, ◌≤◌, ◌+◌, ◌*◌, ◌∷◌, ℕ, [], List, length, map, true, Option, Some, None, IfOk, IfSome, OnOk, not, ◌&&◌, ◌++◌};
+ghost use Rattle.std.specs.Option.{option_map, option_and_then};
+ghost use Rattle.cd_cell.specs.Infos.{rep_of_info};
+ghost use Rattle.cd_cell.specs.Joined.{joined_face};
+ghost use Rattle.cd_cell.specs.Levels.{info_of_face};
+ghost use Rattle.cd_cell.specs.Listings.{Fits};
+ghost use Rattle.cd_cell.specs.declared.info.ChildInfo.{ChildInfo};
+ghost use Rattle.cd_record.specs.declared.limits.TheConstants.{GREATEST_COUNT};
 ghost use Rattle.cd_event.specs.declared.event.Event.TheVariants.{Merge};
 ghost use Rattle.cd_event.specs.Replies.{merge_reply};
+ghost use Rattle.cd_event.specs.Replies as replies;
+ghost use Rattle.cd_world.specs.Machine as machine;
 ghost use Rattle.cd_event.specs.Turning.{MayName, IsStored, is_keeper, RisesOnly};
+ghost use Rattle.cd_world.specs.Standing.{block_at, has_id, is_pin, is_pinned};
+ghost use Rattle.cd_world.specs.Changes.{pins_without, without_pin, without_pins};
+ghost use Rattle.cd_block.specs.declared.description.Descr.{Descr};
+ghost use Rattle.cd_world.specs.Machine.{rows_at, blocks_of, is_over, old_info, unmergeable};
+ghost use Rattle.cd_world.specs.Told.{ToldWorld};
+ghost use Rattle.cd_world.specs.declared.world.PinRow.{PinRow};
+ghost use Rattle.cd_core.specs.Cores.{IsWritable, Holds};
 ghost use Rattle.cd_core.specs.Effects.{Adds, MayStoreOver};
+ghost use Rattle.cd_core.specs.Steps.{Did};
+ghost use Rattle.cd_core.specs.Merging.{IsOfParents, AreGoing, rows_of_ends, goes_in_turn};
+ghost use Rattle.cd_core.specs.Storing.{merge_of};
 
-use crate::body::Core;
-use cd_block::{BlockId, BlockIds};
-use cd_cell::{Hash32, Prepared};
-use cd_event::{MergeFault, Stored, Who};
-use cd_keeper::Keeper;
+use crate::body::{Core, make_room, note};
+use crate::collecting::collected_place;
+use crate::expiring::keep_fault;
+use crate::pinning::root_of;
+use crate::placing::{answer_of, plan_state, store_block, stored_descr};
+use crate::replying::merge_reply;
+use cd_base::{Hash256, Memory};
+use cd_block::{BlockId, BlockIds, Descr, lineage};
+use cd_cell::{Bits, ChildInfo, Face, GREATEST_DEPTH, Hash32, Prepared, face_info};
+use cd_count::{CountFault, Plan, plan_drop};
+use cd_event::{Event, MergeFault, Stored, Who};
+use cd_keeper::{KeepFault, Keeper};
+use cd_world::{PinRow, World, find_block, is_same_id, pin_row};
+use std::alloc::Global;
+
+// The constructor tag of a split state (TL-B, `split_state`).
+const SPLIT_TAG: [u8; 4] = [0x5f, 0x32, 0x7d, 0xa5];
+
+/// The pins that end with a merge: that of the parent, or those of the left and the right half of the shard.
+#[derive(Clone, Copy)]
+pub(crate) struct Ends {
+    pub(crate) first: PinRow,
+    pub(crate) second: Option<PinRow>,
+}
 
 impl<K: Keeper, H: Hash32> Core<K, H> {
     /// Stores a block over the state of a pinned parent, or over those of two, the left half of the shard first, in one
@@ -33,6 +71,316 @@ impl<K: Keeper, H: Hash32> Core<K, H> {
         ensures cause { RisesOnly (is_keeper (merge_reply result))
             (K.faults self.old.keeper) (K.faults self.new.keeper) }
     {
-        Err(MergeFault::Memory)
+        let Ok(()) = make_room(&mut self.journal, who) else {
+            return Err(MergeFault::Memory);
+        };
+        let limit = self.start.limit;
+        let answer = merge_over::<K, H>(
+            self.alloc,
+            &mut self.keeper,
+            &mut self.world,
+            limit,
+            who,
+            pin,
+            other,
+            &id,
+            &tops,
+            &prepared,
+        );
+        let reply = merge_reply(&answer);
+        let event = Event::Merge {
+            pin,
+            other,
+            id,
+            tops,
+            prepared,
+        };
+        note(&mut self.journal, who, event, reply);
+        answer
     }
+}
+
+/// Stores a block over pinned parents where nothing refuses it.
+fn merge_over<K: Keeper, H: Hash32>(
+    alloc: Global,
+    keeper: &mut K,
+    world: &mut World,
+    limit: u64,
+    who: Who,
+    pin: u64,
+    other: Option<u64>,
+    id: &BlockId,
+    tops: &BlockIds,
+    prepared: &Prepared<H>,
+) -> Result<Stored, MergeFault>
+    requires kept { IsWritable world.old }
+    requires limit { limit ≤ GREATEST_COUNT }
+    requires tops { MayName id.now tops.now }
+    requires fits { (t : ToldWorld) (rows : List PinRow) → t.world ≡ world.old → Holds K.held H.digest_of t keeper.old
+        → rows_at world.old who.worker pin other ≡ Some rows
+        → is_over prepared.now (old_info H.digest_of (map (block_at world.old) (blocks_of rows))) ≡ true
+        → Fits H.digest_of prepared.now.root prepared.now.cells (map t.state (blocks_of rows)) }
+    ensures did { Did K.held H.digest_of K.trail {X = H} K.batches K.faults limit world.old keeper.old who
+        (Merge pin other id.now tops.now prepared.now) (merge_reply result) world.new keeper.new }
+    ensures stored { IfOk result (IsStored prepared.now) }
+{
+    let Some(ends) = ends_at(world, who.worker, pin, other) else {
+        return Err(MergeFault::NoPin);
+    };
+    let Ok(parents) = parents_of(alloc, &ends) else {
+        return Err(MergeFault::Memory);
+    };
+    if let Some(fault) = merge_refusal::<H>(world, &ends, parents.as_slice(), id, prepared) {
+        return Err(fault);
+    }
+    let plan = match plan_state(alloc, keeper, world, id, parents.as_slice(), tops, prepared, limit) {
+        Ok(plan) => plan,
+        Err(fault) => return Err(merge_fault(fault)),
+    };
+    let Ok(descr) = stored_descr(alloc, id, parents.as_slice(), tops, prepared) else {
+        return Err(MergeFault::Memory);
+    };
+    let Ok(going) = list_going(alloc, world, &ends) else {
+        return Err(MergeFault::Memory);
+    };
+    match store_without::<K, H>(alloc, keeper, world, plan, descr, going) {
+        Ok(()) => {
+            end_all(world, &ends);
+            Ok(answer_of(prepared))
+        }
+        Err(KeepFault::Failed) => Err(MergeFault::Keeper),
+        Err(KeepFault::Memory) => Err(MergeFault::Memory),
+    }
+}
+
+/// Puts a block into the world and the keeper, from which others go, in one batch.
+fn store_without<K: Keeper, H: Hash32>(
+    alloc: Global,
+    keeper: &mut K,
+    world: &mut World,
+    plan: Plan,
+    descr: Descr,
+    going: Going,
+) -> Result<(), KeepFault> {
+    let plan = match plan_drop(alloc, keeper, plan, going.roots.as_slice()) {
+        Ok(plan) => plan,
+        Err(fault) => return Err(keep_fault(fault)),
+    };
+    store_block(alloc, keeper, world, plan, descr, going.ids)
+}
+
+/// Why the world refuses a block over pinned parents.
+fn merge_refusal<H: Hash32>(
+    world: &World,
+    ends: &Ends,
+    parents: &[BlockId],
+    id: &BlockId,
+    prepared: &Prepared<H>,
+) -> Option<MergeFault>
+    requires { parents.now ≡ blocks_of (rows_of_ends ends.now) }
+    ensures refusal { option_and_then replies.merge_refusal result
+        ≡ unmergeable H.digest_of world.now id.now prepared.now (Some (rows_of_ends ends.now)) }
+    ensures kind { IfSome result IsOfParents }
+{
+    if !is_over(prepared, old_root::<H>(world, ends)) {
+        return Some(MergeFault::WrongPin);
+    }
+    if find_block(world, id).is_some() {
+        return Some(MergeFault::Known);
+    }
+    if let Err(fault) = lineage(id, parents) {
+        return Some(MergeFault::Lineage(fault));
+    }
+    None
+}
+
+/// Whether a value was prepared over an old tree, which is of no depth over 1024.
+fn is_over<H: Hash32>(prepared: &Prepared<H>, old: Option<ChildInfo>) -> bool
+    ensures { result ≡ machine.is_over prepared.now old }
+{
+    let Some(old) = old else {
+        return false;
+    };
+    if u32::from(old.height()) > GREATEST_DEPTH {
+        return false;
+    }
+    match prepared.old() {
+        Some(stated) => stated.0 == old.rep().0,
+        None => false,
+    }
+}
+
+/// What the old tree's root shows: the state of the one parent, or the joined tree of both.
+fn old_root<H: Hash32>(world: &World, ends: &Ends) -> Option<ChildInfo>
+    ensures { result ≡ old_info H.digest_of (map (block_at world.now) (blocks_of (rows_of_ends ends.now))) }
+{
+    let Some(first) = find_block(world, &ends.first.block) else {
+        return None;
+    };
+    let first = root_of(first);
+    let Some(second) = &ends.second else {
+        return Some(first);
+    };
+    match find_block(world, &second.block) {
+        Some(second) => Some(face_info::<H>(&joined_over(&first, &root_of(second)))),
+        None => None,
+    }
+}
+
+/// The face of the joined tree of two states.
+fn joined_over(left: &ChildInfo, right: &ChildInfo) -> Face
+    ensures { result ≡ joined_face left.now right.now }
+{
+    match Bits::from_slice(&SPLIT_TAG, 32) {
+        Some(tag) => Face::new(false, tag, &[*left, *right]),
+        None => unreachable!(),
+    }
+}
+
+/// A plan's fault as that of a merge.
+fn merge_fault(fault: CountFault) -> MergeFault
+    ensures { result ≡ merge_of fault }
+{
+    match fault {
+        CountFault::Clash {
+            hash,
+            stored,
+            offered,
+        } => MergeFault::Clash {
+            hash,
+            stored,
+            offered,
+        },
+        CountFault::CountFull { hash, count } => MergeFault::CountFull { hash, count },
+        CountFault::Keeper => MergeFault::Keeper,
+        CountFault::Memory => MergeFault::Memory,
+    }
+}
+
+/// The pins that a merge names; none where one isn't a pin of the worker, or both are one.
+fn ends_at(world: &World, worker: u16, pin: u64, other: Option<u64>) -> Option<Ends>
+    ensures { option_map rows_of_ends result ≡ rows_at world.now worker pin other }
+{
+    let first = *pin_row(world, worker, pin)?;
+    let Some(other) = other else {
+        return Some(Ends {
+            first,
+            second: None,
+        });
+    };
+    if pin == other {
+        return None;
+    }
+    let second = *pin_row(world, worker, other)?;
+    Some(Ends {
+        first,
+        second: Some(second),
+    })
+}
+
+/// Whether two pins are one.
+fn is_same_pin(a: &PinRow, b: &PinRow) -> bool
+    ensures { result ≡ is_pin b.now.worker b.now.pin a.now }
+{
+    a.pin == b.pin && a.worker == b.worker
+}
+
+/// Whether a pin but these two is on a block.
+fn is_held_besides(pins: &[PinRow], first: &PinRow, second: &PinRow, id: &BlockId) -> bool
+    ensures { result ≡ is_pinned (pins_without second.now (pins_without first.now pins.now)) id.now }
+{
+    pins.iter()
+        .any(|r| !is_same_pin(r, first) && !is_same_pin(r, second) && is_same_id(&r.block, id))
+}
+
+/// Whether a block goes with the pins' end, the first one first.
+fn goes(world: &World, ends: &Ends, block: &Descr) -> bool
+    ensures { result ≡ goes_in_turn world.now (rows_of_ends ends.now) block.now }
+{
+    if waits_for(world, &ends.first, &ends.first, block) {
+        return true;
+    }
+    match &ends.second {
+        Some(second) => waits_for(world, &ends.first, second, block),
+        None => false,
+    }
+}
+
+/// Whether a leaving block waits for the end of this pin alone, once another has ended.
+fn waits_for(world: &World, ended: &PinRow, row: &PinRow, block: &Descr) -> bool
+    ensures { result ≡ ((has_id row.now.block block.now && block.now.leaving)
+        && not (is_pinned (pins_without row.now (pins_without ended.now world.now.pins)) row.now.block)) }
+{
+    is_same_id(&block.id, &row.block)
+        && block.leaving
+        && !is_held_besides(world.pins.as_slice(), ended, row, &row.block)
+}
+
+/// The blocks that go with the pins' end: their roots and ids.
+#[derive(Drop)]
+struct Going {
+    roots: Vec<Hash256>,
+    ids: Vec<BlockId>,
+}
+
+/// Lists the blocks that go with the pins' end.
+fn list_going(alloc: Global, world: &World, ends: &Ends) -> Result<Going, Memory>
+    ensures { IfOk result (λ going. AreGoing world.now (rows_of_ends ends.now) going.roots.items going.ids.items world.now.blocks) }
+{
+    let mut going = Going {
+        roots: Vec::new(alloc),
+        ids: Vec::new(alloc),
+    };
+    for block in world.blocks.as_slice() {
+        list_if_going(&mut going, world, ends, block)?;
+    }
+    Ok(going)
+}
+
+/// Adds a block, if it goes.
+fn list_if_going(going: &mut Going, world: &World, ends: &Ends, block: &Descr) -> Result<(), Memory>
+    ensures { (blocks : List Descr)
+        → AreGoing world.now (rows_of_ends ends.now) going.old.roots.items going.old.ids.items blocks
+        → OnOk result (AreGoing world.now (rows_of_ends ends.now) going.new.roots.items going.new.ids.items (blocks ++ block.now ∷ [])) }
+{
+    if goes(world, ends, block) {
+        going.roots.push(block.root)?;
+        going.ids.push(block.id)?;
+    }
+    Ok(())
+}
+
+/// The pins' blocks, which are the parents.
+fn parents_of(alloc: Global, ends: &Ends) -> Result<Vec<BlockId>, Memory>
+    ensures { IfOk result (λ parents. parents.items ≡ blocks_of (rows_of_ends ends.now)) }
+{
+    let mut parents = Vec::new(alloc);
+    parents.push(ends.first.block)?;
+    if let Some(second) = &ends.second {
+        parents.push(second.block)?;
+    }
+    Ok(parents)
+}
+
+/// Ends the pins in the world, the first one first.
+fn end_all(world: &mut World, ends: &Ends)
+    requires { IsWritable world.old }
+    ensures { world.new ≡ without_pins world.old (rows_of_ends ends.now) }
+{
+    end_row(world, &ends.first);
+    if let Some(second) = &ends.second {
+        end_row(world, second);
+    }
+}
+
+/// Ends a pin in the world: where its block is leaving and has no other pin, the block goes too.
+fn end_row(world: &mut World, row: &PinRow)
+    requires { IsWritable world.old }
+    ensures gone { world.new ≡ without_pin world.old row.now }
+    ensures kept { IsWritable world.new }
+{
+    if let Some(place) = collected_place(world, row) {
+        world.blocks.remove(place);
+    }
+    world.pins.drop_pin(row.worker, row.pin);
 }
