@@ -1,20 +1,24 @@
 -- Pins that end one after another: the blocks that go with them, and the descriptions before and after.
 use Rattle.std.proofs.Common.{◌≡◌, ℕ, Bool, true, false, cond, not, List, [], ◌∷◌, ◌++◌, map, Option, Some, None, Contains, refl, sym, ap, ap₂, ◌∙◌, subst, ⊎_elim}
 use Rattle.std.specs.Prelude.{◌||◌, ◌&&◌}
-use Rattle.std.specs.Option.{option_or}
+use Rattle.std.specs.Option.{option_or, option_to_list}
 use Rattle.std.specs.List.{filter, list_any}
 use Rattle.std.specs.Ordering.{is_lt}
-use Rattle.std.proofs.lemmas.Bool.{true≢false}
+use Rattle.std.proofs.lemmas.List.Elements.{All-contains}
 use Rattle.cd_block.specs.declared.description.Descr.{Descr}
 use Rattle.cd_block.specs.Block.{id_cmp}
-use Rattle.cd_block.specs.Description.{descr_text}
+use Rattle.cd_block.specs.Description.{descr_text, IsDescr, IsDescrFit}
 use Rattle.cd_cell.proofs.Subtrees.{Contains-first, Contains-later, Contains-nil}
 use Rattle.cd_keeper.specs.NoKeyTwice.{same_key}
 use Rattle.cd_world.specs.declared.world.World.{World}
 use Rattle.cd_world.specs.declared.world.PinRow.{PinRow}
+use Rattle.cd_world.specs.Standing.{is_pin, names_block, has_id}
 use Rattle.cd_world.specs.Changes.{placed, goes_with, without_pin, without_pins}
-use Rattle.cd_world.proofs.Orders.{Contains-filter, Contains-placed}
-use Rattle.cd_core.specs.Merging.{goes_in_turn}
+use Rattle.cd_world.proofs.Orders.{All-from_Contains, Contains-filter, Contains-placed}
+use Rattle.cd_world.proofs.TidyWorlds.{tidy-without_pin}
+use Rattle.cd_core.specs.Cores.{IsWritable}
+use Rattle.cd_core.specs.Merging.{goes_in_turn, is_pinned_besides}
+use Rattle.cd_core.proofs.Unpinned.{any-filtered}
 use Rattle.cd_core.proofs.DescrTables.{key, look, look-placed, look-filtered, none-dropped, other-of, symmetric, HaveKeysApart}
 
 filter-both : {A : Type 0} (p q : A → Bool) (xs : List A) → filter (λ x. not (q x)) (filter (λ x. not (p x)) xs) ≡ filter (λ x. not (p x || q x)) xs
@@ -71,3 +75,60 @@ look-in-turn goes d xs q stays new apart =
     by true e =
         ap (λ b. cond b None (Some (descr_text d))) (none-dropped q (filter goes xs) (λ y h. let there = Contains-filter goes xs y h in other-of q (key d) (key y) e (new y there.0)))
     by false e = refl
+
+-- ---- whether a block goes
+
+any-same : {A : Type 0} (p q : A → Bool) → ((x : A) → p x ≡ q x) → (xs : List A) → list_any p xs ≡ list_any q xs
+any-same p q same [] = refl
+any-same p q same (x ∷ xs) = ap₂ (λ a b. a || b) (same x) (any-same p q same xs)
+
+and-regroup : (a b c : Bool) → (a && (b && c)) ≡ ((a && b) && c)
+and-regroup true b c = refl
+and-regroup false b c = refl
+
+and-twice : (a b : Bool) → (a && b) ≡ ((a && a) && b)
+and-twice true b = refl
+and-twice false b = refl
+
+module _ (w : World) (first : PinRow) (d : Descr) where
+  abbrev off : PinRow → PinRow → Bool
+  off row r = not (is_pin row.worker row.pin r)
+
+  -- the first pin's block
+  pub first-goes : goes_with w first d ≡ ((has_id first.block d && d.leaving) && not (is_pinned_besides first first first.block w.pins))
+  first-goes = ap (λ b. (has_id first.block d && d.leaving) && not b)
+      (any-filtered (off first) (names_block first.block) w.pins ∙ any-same (λ r. off first r && names_block first.block r) (λ r. (off first r && off first r) && names_block first.block r) (λ r. and-twice (off first r) (names_block first.block r)) w.pins)
+
+  -- the second one's, once the first has ended
+  pub second-goes : (second : PinRow) → goes_with (without_pin w first) second d ≡ ((has_id second.block d && d.leaving) && not (is_pinned_besides first second second.block w.pins))
+  second-goes second = ap (λ b. (has_id second.block d && d.leaving) && not b)
+      (any-filtered (off second) (names_block second.block) (filter (off first) w.pins)
+      ∙ any-filtered (off first) (λ r. off second r && names_block second.block r) w.pins
+      ∙ any-same (λ r. off first r && (off second r && names_block second.block r)) (λ r. (off first r && off second r) && names_block second.block r) (λ r. and-regroup (off first r) (off second r) (names_block second.block r)) w.pins)
+
+or-off : (b : Bool) → (b || false) ≡ b
+or-off true = refl
+or-off false = refl
+
+-- what is answered for one pin and for two
+pub goes-first : (w : World) (first : PinRow) (rest : List PinRow) (d : Descr) → goes_with w first d ≡ true → true ≡ goes_in_turn w (first ∷ rest) d
+goes-first w first rest d goes = sym (ap (λ b. b || goes_in_turn (without_pin w first) rest d) goes)
+
+pub goes-second : (w : World) (first second : PinRow) (other : Option PinRow) (d : Descr) (b : Bool) → goes_with w first d ≡ false → other ≡ Some second → b ≡ goes_with (without_pin w first) second d → b ≡ goes_in_turn w (first ∷ option_to_list other) d
+goes-second w first second other d b off is given =
+    given ∙ sym (or-off (goes_with (without_pin w first) second d))
+    ∙ sym (ap₂ (λ a (o : Option PinRow). a || goes_in_turn (without_pin w first) (option_to_list o) d) off is)
+
+pub goes-none : (w : World) (first : PinRow) (other : Option PinRow) (d : Descr) → goes_with w first d ≡ false → other ≡ None → false ≡ goes_in_turn w (first ∷ option_to_list other) d
+goes-none w first other d off is = sym (ap₂ (λ a (o : Option PinRow). a || goes_in_turn (without_pin w first) (option_to_list o) d) off is)
+
+-- ---- a pin ends in the world
+
+pub writable-without : (w : World) (row : PinRow) → IsWritable w → IsWritable (without_pin w row)
+writable-without w row ready =
+    let stays : Descr → Bool = λ d. not (goes_with w row d) in
+    record {
+      tidy = tidy-without_pin w ready.tidy row;
+      fit = All-from_Contains IsDescrFit (filter stays w.blocks) (λ d h. let there = Contains-filter stays w.blocks d h in All-contains IsDescrFit w.blocks d ready.fit there.0);
+      are = All-from_Contains IsDescr (filter stays w.blocks) (λ d h. let there = Contains-filter stays w.blocks d h in All-contains IsDescr w.blocks d ready.are there.0);
+    }

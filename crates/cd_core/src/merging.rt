@@ -1,7 +1,8 @@
 //! A block is stored over pinned parents.
-ghost use Rattle.std.specs.Prelude.{◌≡◌, ◌≤◌, ◌+◌, ◌*◌, ◌∷◌, ℕ, [], List, length, map, true, Option, Some, None, IfOk, IfSome, OnOk, not, ◌&&◌, ◌++◌};
+ghost use Rattle.std.specs.Prelude.{◌≡◌, ◌≤◌, ◌<◌, ◌+◌, ◌*◌, ◌∷◌, ℕ, [], List, length, map, true, Option, Some, None, IfOk, IfSome, OnOk, OnErr, not, ◌&&◌, ◌++◌};
 ghost use Rattle.std.specs.Option.{option_map, option_and_then};
-ghost use Rattle.cd_cell.specs.Infos.{rep_of_info};
+ghost use Rattle.cd_cell.specs.GoodFace.{IsGoodFace};
+ghost use Rattle.cd_cell.specs.Infos.{info_depth};
 ghost use Rattle.cd_cell.specs.Joined.{joined_face};
 ghost use Rattle.cd_cell.specs.Levels.{info_of_face};
 ghost use Rattle.cd_cell.specs.Listings.{Fits};
@@ -12,17 +13,23 @@ ghost use Rattle.cd_event.specs.Replies.{merge_reply};
 ghost use Rattle.cd_event.specs.Replies as replies;
 ghost use Rattle.cd_world.specs.Machine as machine;
 ghost use Rattle.cd_event.specs.Turning.{MayName, IsStored, is_keeper, RisesOnly};
-ghost use Rattle.cd_world.specs.Standing.{block_at, has_id, is_pin, is_pinned};
-ghost use Rattle.cd_world.specs.Changes.{pins_without, without_pin, without_pins};
+ghost use Rattle.cd_world.specs.Standing.{block_at, has_id, is_pin};
+ghost use Rattle.cd_world.specs.Changes.{with_block, without_pin, without_pins};
 ghost use Rattle.cd_block.specs.declared.description.Descr.{Descr};
-ghost use Rattle.cd_world.specs.Machine.{rows_at, blocks_of, is_over, old_info, unmergeable};
+ghost use Rattle.cd_world.specs.Machine.{rows_at, blocks_of, old_info, unmergeable};
 ghost use Rattle.cd_world.specs.Told.{ToldWorld};
 ghost use Rattle.cd_world.specs.declared.world.PinRow.{PinRow};
 ghost use Rattle.cd_core.specs.Cores.{IsWritable, Holds};
 ghost use Rattle.cd_core.specs.Effects.{Adds, MayStoreOver};
 ghost use Rattle.cd_core.specs.Steps.{Did};
-ghost use Rattle.cd_core.specs.Merging.{IsOfParents, AreGoing, rows_of_ends, goes_in_turn};
-ghost use Rattle.cd_core.specs.Storing.{merge_of};
+ghost use Rattle.cd_core.specs.Merging.{IsOfParents, AreGoing, rows_of_ends, goes_in_turn, is_pinned_besides, IsDropping};
+ghost use Rattle.cd_core.specs.Storing.{merge_of, IsPlanMade};
+ghost use Rattle.std.specs.List.{IsDistinct};
+ghost use Rattle.cd_block.specs.Block.{key_of};
+ghost use Rattle.cd_block.specs.Description.{IsDescrFit};
+ghost use Rattle.cd_keeper.specs.NoKeyTwice.{same_key};
+ghost use Rattle.cd_keeper.specs.Keeping.{KeepsHeld, HasKeepCause};
+ghost use Rattle.cd_count.specs.Changes.{Rows};
 
 use crate::body::{Core, make_room, note};
 use crate::collecting::collected_place;
@@ -118,7 +125,7 @@ fn merge_over<K: Keeper, H: Hash32>(
     requires tops { MayName id.now tops.now }
     requires fits { (t : ToldWorld) (rows : List PinRow) → t.world ≡ world.old → Holds K.held H.digest_of t keeper.old
         → rows_at world.old who.worker pin other ≡ Some rows
-        → is_over prepared.now (old_info H.digest_of (map (block_at world.old) (blocks_of rows))) ≡ true
+        → machine.is_over prepared.now (old_info H.digest_of (map (block_at world.old) (blocks_of rows))) ≡ true
         → Fits H.digest_of prepared.now.root prepared.now.cells (map t.state (blocks_of rows)) }
     ensures did { Did K.held H.digest_of K.trail {X = H} K.batches K.faults limit world.old keeper.old who
         (Merge pin other id.now tops.now prepared.now) (merge_reply result) world.new keeper.new }
@@ -130,7 +137,7 @@ fn merge_over<K: Keeper, H: Hash32>(
     let Ok(parents) = parents_of(alloc, &ends) else {
         return Err(MergeFault::Memory);
     };
-    if let Some(fault) = merge_refusal::<H>(world, &ends, parents.as_slice(), id, prepared) {
+    if let Some(fault) = merge_refusal(world, &ends, parents.as_slice(), id, prepared) {
         return Err(fault);
     }
     let plan = match plan_state(alloc, keeper, world, id, parents.as_slice(), tops, prepared, limit) {
@@ -161,7 +168,16 @@ fn store_without<K: Keeper, H: Hash32>(
     plan: Plan,
     descr: Descr,
     going: Going,
-) -> Result<(), KeepFault> {
+) -> Result<(), KeepFault>
+    requires fit { IsDescrFit descr }
+    requires once { IsDistinct same_key (map key_of going.ids.items ++ key_of descr.id ∷ []) }
+    ensures world { OnOk result (world.new ≡ with_block world.old descr) }
+    ensures made { OnOk result ((after : Rows) × IsDropping K.held H.digest_of keeper.old plan going.roots.items after
+        × IsPlanMade K.held K.trail K.batches after descr going.ids.items keeper.old keeper.new) }
+    ensures still { OnErr result (world.new ≡ world.old) }
+    ensures undone { OnErr result (KeepsHeld K.held K.trail K.batches keeper.old keeper.new) }
+    ensures cause { HasKeepCause (K.faults keeper.old) (K.faults keeper.new) result }
+{
     let plan = match plan_drop(alloc, keeper, plan, going.roots.as_slice()) {
         Ok(plan) => plan,
         Err(fault) => return Err(keep_fault(fault)),
@@ -182,7 +198,7 @@ fn merge_refusal<H: Hash32>(
         ≡ unmergeable H.digest_of world.now id.now prepared.now (Some (rows_of_ends ends.now)) }
     ensures kind { IfSome result IsOfParents }
 {
-    if !is_over(prepared, old_root::<H>(world, ends)) {
+    if !is_over_parents(world, ends, prepared) {
         return Some(MergeFault::WrongPin);
     }
     if find_block(world, id).is_some() {
@@ -194,13 +210,40 @@ fn merge_refusal<H: Hash32>(
     None
 }
 
-/// Whether a value was prepared over an old tree, which is of no depth over 1024.
-fn is_over<H: Hash32>(prepared: &Prepared<H>, old: Option<ChildInfo>) -> bool
-    ensures { result ≡ machine.is_over prepared.now old }
+/// Whether a value was prepared over the state of the one parent, or over the joined tree of both.
+fn is_over_parents<H: Hash32>(world: &World, ends: &Ends, prepared: &Prepared<H>) -> bool
+    ensures { result ≡ machine.is_over prepared.now
+        (old_info H.digest_of (map (block_at world.now) (blocks_of (rows_of_ends ends.now)))) }
 {
-    let Some(old) = old else {
+    let Some(first) = find_block(world, &ends.first.block) else {
         return false;
     };
+    let first = root_of(first);
+    let Some(second) = &ends.second else {
+        return is_over(prepared, &first);
+    };
+    match find_block(world, &second.block) {
+        Some(second) => is_over_both(prepared, &first, &root_of(second)),
+        None => false,
+    }
+}
+
+/// Whether a value was prepared over the joined tree of two states, which is of no depth over 1024.
+fn is_over_both<H: Hash32>(prepared: &Prepared<H>, left: &ChildInfo, right: &ChildInfo) -> bool
+    requires left { left.now.mask ≡ 0 }
+    requires right { right.now.mask ≡ 0 }
+    ensures { result ≡ machine.is_over prepared.now (Some (info_of_face H.digest_of (joined_face left.now right.now))) }
+{
+    if left.depth_at(0).max(right.depth_at(0)) >= 1024 {
+        return false;
+    }
+    is_over(prepared, &face_info::<H>(&joined_over(left, right)))
+}
+
+/// Whether a value was prepared over a tree with this root, which is of no depth over 1024.
+fn is_over<H: Hash32>(prepared: &Prepared<H>, old: &ChildInfo) -> bool
+    ensures { result ≡ machine.is_over prepared.now (Some old.now) }
+{
     if u32::from(old.height()) > GREATEST_DEPTH {
         return false;
     }
@@ -210,26 +253,12 @@ fn is_over<H: Hash32>(prepared: &Prepared<H>, old: Option<ChildInfo>) -> bool
     }
 }
 
-/// What the old tree's root shows: the state of the one parent, or the joined tree of both.
-fn old_root<H: Hash32>(world: &World, ends: &Ends) -> Option<ChildInfo>
-    ensures { result ≡ old_info H.digest_of (map (block_at world.now) (blocks_of (rows_of_ends ends.now))) }
-{
-    let Some(first) = find_block(world, &ends.first.block) else {
-        return None;
-    };
-    let first = root_of(first);
-    let Some(second) = &ends.second else {
-        return Some(first);
-    };
-    match find_block(world, &second.block) {
-        Some(second) => Some(face_info::<H>(&joined_over(&first, &root_of(second)))),
-        None => None,
-    }
-}
-
 /// The face of the joined tree of two states.
 fn joined_over(left: &ChildInfo, right: &ChildInfo) -> Face
-    ensures { result ≡ joined_face left.now right.now }
+    ensures face { result ≡ joined_face left.now right.now }
+    // It passes the check where both states are of mask 0 and neither is of the greatest depth.
+    ensures good { left.now.mask ≡ 0 → right.now.mask ≡ 0 → info_depth left.now 0 < 1024
+        → info_depth right.now 0 < 1024 → IsGoodFace result }
 {
     match Bits::from_slice(&SPLIT_TAG, 32) {
         Some(tag) => Face::new(false, tag, &[*left, *right]),
@@ -287,7 +316,7 @@ fn is_same_pin(a: &PinRow, b: &PinRow) -> bool
 
 /// Whether a pin but these two is on a block.
 fn is_held_besides(pins: &[PinRow], first: &PinRow, second: &PinRow, id: &BlockId) -> bool
-    ensures { result ≡ is_pinned (pins_without second.now (pins_without first.now pins.now)) id.now }
+    ensures { result ≡ is_pinned_besides first.now second.now id.now pins.now }
 {
     pins.iter()
         .any(|r| !is_same_pin(r, first) && !is_same_pin(r, second) && is_same_id(&r.block, id))
@@ -309,7 +338,7 @@ fn goes(world: &World, ends: &Ends, block: &Descr) -> bool
 /// Whether a leaving block waits for the end of this pin alone, once another has ended.
 fn waits_for(world: &World, ended: &PinRow, row: &PinRow, block: &Descr) -> bool
     ensures { result ≡ ((has_id row.now.block block.now && block.now.leaving)
-        && not (is_pinned (pins_without row.now (pins_without ended.now world.now.pins)) row.now.block)) }
+        && not (is_pinned_besides ended.now row.now row.now.block world.now.pins)) }
 {
     is_same_id(&block.id, &row.block)
         && block.leaving
@@ -381,6 +410,8 @@ fn end_row(world: &mut World, row: &PinRow)
 {
     if let Some(place) = collected_place(world, row) {
         world.blocks.remove(place);
+        world.pins.drop_pin(row.worker, row.pin);
+        return;
     }
     world.pins.drop_pin(row.worker, row.pin);
 }
