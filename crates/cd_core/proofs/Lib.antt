@@ -7,6 +7,7 @@ pub mod Doings
 pub mod Dropped
 pub mod Ended
 pub mod Expired
+pub mod Halves
 pub mod InTurn
 pub mod Journaling
 pub mod Keepings
