@@ -312,11 +312,13 @@ module _ {K : Type 0} (X : Type 0) (held : K → Option Contents) (H : List ℕ 
       passed-did w' went made steady =
           batch-did held H trail batches faults limit low w w' k k' who (Expire id) (reply.Expired count) ready tt free told-reply refl (went ∙ sym (went-by w refl)) (positive count some) made.change made.applied steady
           (λ t contents same said so.
-          let leads = made.leads t contents same said so in
-          (refl, tt,
-          contents-blocks H (shown (told_passed m t)) (shown (record { world = moved {X = X} t.world who.worker (Expire id); state = t.state })) _
-          (ap (λ (v : World). let s = shown (record { world = v; state = t.state }) in s.blocks) (sym (went-by t.world same))) leads.0,
-          leads.1))
+          let leads = made.leads t contents same said so in (
+            refl,
+            tt,
+            contents-blocks H (shown (told_passed m t)) (shown (record { world = moved {X = X} t.world who.worker (Expire id); state = t.state })) _
+                (ap (λ (v : World). let s = shown (record { world = v; state = t.state }) in s.blocks) (sym (went-by t.world same))) leads.0,
+            leads.1,
+          ))
 
       -- the keeper failed
       pub passing-failed : KeepsHeld held trail batches k k' → faults k ≤ faults k' → Rose (faults k) (faults k') → DidSo (Err expire.Keeper) w k'

@@ -111,7 +111,9 @@ module _ {K : Type 0} (X : Type 0) (held : K → Option Contents) (H : List ℕ 
         let none = judged t is holds in
         let added = planned t is holds in
         let fresh : block_at t.world id ≡ None = ap (λ x. block_at x id) is ∙ none_of w id (or_first _ _ free) in
-        let next = sound-next H limit low t who event so.sound (ap (λ x. refusal_of H x who.worker event) is ∙ free) refl none (storable, whole) in
-        (none, (storable, whole),
-        stored-leads H t id [] tops p so.sound next fresh added.0 plan added.1 made.change made.cells (made.puts ∙ ap (λ (x : Descr). descr_puts (x ∷ [])) is_d) (made.drops ∙ ap (map key_of) nothing) contents so.are,
-        bytes-changed made.change contents so.bytes made.bytes))
+        let next = sound-next H limit low t who event so.sound (ap (λ x. refusal_of H x who.worker event) is ∙ free) refl none (storable, whole) in (
+          none,
+          (storable, whole),
+          stored-leads H t id [] tops p so.sound next fresh added.0 plan added.1 made.change made.cells (made.puts ∙ ap (λ (x : Descr). descr_puts (x ∷ [])) is_d) (made.drops ∙ ap (map key_of) nothing) contents so.are,
+          bytes-changed made.change contents so.bytes made.bytes,
+        ))

@@ -33,9 +33,9 @@ use cd_world::{World, find_kept, is_expired, is_pinned};
 use std::alloc::Global;
 
 impl<K: Keeper, H: Hash32> Core<K, H> {
-    /// Drops the blocks that a masterchain block and its shard tops have passed, in one batch, but for pinned ones, which
-    /// are leaving from then on. The answer is the number of both; where it is 0 no batch is made. Reads at most 4 records
-    /// for each cell that goes, and one for each block that does.
+    /// Drops the blocks that a masterchain block and its shard tops have passed, in one batch, but for pinned
+    /// ones, which are leaving from then on. The answer is the number of both; where it is 0 no batch is made.
+    /// Reads at most 4 records for each cell that goes, and one for each block that does.
     pub fn expire(&mut self, who: Who, id: BlockId) -> Result<u64, ExpireFault>
         ensures start { self.new.start ≡ self.old.start }
         ensures adds { Adds K.held H.digest_of self.old.start self.old.journal who (Expire id)
@@ -45,21 +45,20 @@ impl<K: Keeper, H: Hash32> Core<K, H> {
         ensures reads { IfSome (told_start K.held self.old.start) (λ t. (dead : List Tree)
             → let now = told_replay H.digest_of t self.old.journal in AreExpired H.digest_of now id dead
             → K.reads self.new.keeper ≤ K.reads self.old.keeper
-                + (4 * length dead + length (dropped_by H.digest_of now (kept_at now.world id)))) }
+            + (4 * length dead + length (dropped_by H.digest_of now (kept_at now.world id)))) }
     {
         let Ok(()) = make_room(&mut self.journal, who) else {
             return Err(ExpireFault::Memory);
         };
-        let answer =
-            expire_by::<K, H>(self.alloc, &mut self.keeper, &mut self.world, who, &id);
+        let answer = expire_by::<K, H>(self.alloc, &mut self.keeper, &mut self.world, who, &id);
         let reply = expire_reply(&answer);
         note(&mut self.journal, who, Event::Expire { id }, reply);
         answer
     }
 }
 
-/// The blocks that a masterchain block has passed: the roots and the ids of those that go, and those with a pin as they
-/// are from then on.
+/// The blocks that a masterchain block has passed: the roots and the ids of those that go, and those with a pin
+/// as they are from then on.
 #[derive(Drop)]
 struct Passed {
     roots: Vec<Hash256>,
@@ -78,11 +77,12 @@ fn expire_by<K: Keeper, H: Hash32>(
     requires kept { IsWritable world.old }
     ensures did { (limit : ℕ) → limit ≤ GREATEST_COUNT
         → Did K.held H.digest_of K.trail {X = H} K.batches K.faults limit world.old keeper.old who
-            (Expire id.now) (expire_reply result) world.new keeper.new }
-    ensures reads { (t : ToldWorld) (dead : List Tree) → t.world ≡ world.old → Holds K.held H.digest_of t keeper.old
+        (Expire id.now) (expire_reply result) world.new keeper.new }
+    ensures reads { (t : ToldWorld) (dead : List Tree)
+        → t.world ≡ world.old → Holds K.held H.digest_of t keeper.old
         → AreExpired H.digest_of t id.now dead
         → K.reads keeper.new ≤ K.reads keeper.old
-            + (4 * length dead + length (dropped_by H.digest_of t (kept_at t.world id.now))) }
+        + (4 * length dead + length (dropped_by H.digest_of t (kept_at t.world id.now))) }
 {
     let master = match master_at(alloc, world, id) {
         Ok(master) => master,
@@ -170,10 +170,12 @@ fn drop_passed<K: Keeper, H: Hash32>(
         (told_passed master.now) keeper.old keeper.new) }
     ensures undone { OnErr result (KeepsHeld K.held K.trail K.batches keeper.old keeper.new) }
     ensures cause { HasKeepCause (K.faults keeper.old) (K.faults keeper.new) result }
-    ensures reads { (t : ToldWorld) (dead : List Tree) → t.world ≡ world.now → Holds K.held H.digest_of t keeper.old
-        → (let all = shown t in AreDeadCells H.digest_of all.blocks (dropped_by H.digest_of t (Some master.now)) dead)
+    ensures reads { (t : ToldWorld) (dead : List Tree)
+        → t.world ≡ world.now → Holds K.held H.digest_of t keeper.old
+        → (let all = shown t in AreDeadCells H.digest_of all.blocks
+        (dropped_by H.digest_of t (Some master.now)) dead)
         → K.reads keeper.new ≤ K.reads keeper.old
-            + (4 * length dead + length (dropped_by H.digest_of t (Some master.now))) }
+        + (4 * length dead + length (dropped_by H.digest_of t (Some master.now))) }
 {
     let plan = match plan_going::<K, H>(alloc, keeper, passed.roots.as_slice()) {
         Ok(plan) => plan,
@@ -234,7 +236,7 @@ fn pass(
     ensures { (blocks : List Descr) → ArePassed world.now master.now
         passed.old.roots.items passed.old.gone.items passed.old.leaving.items blocks
         → OnOk result (ArePassed world.now master.now
-            passed.new.roots.items passed.new.gone.items passed.new.leaving.items (blocks ++ block.now ∷ [])) }
+        passed.new.roots.items passed.new.gone.items passed.new.leaving.items (blocks ++ block.now ∷ [])) }
 {
     if !is_expired(master, block) {
         return Ok(());

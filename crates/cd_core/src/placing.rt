@@ -109,7 +109,8 @@ pub(crate) fn copy_descr(alloc: Global, descr: &Descr) -> Result<Descr, Memory>
 /// The place of a block in the order of ids.
 fn block_place(blocks: &[Descr], id: &BlockId) -> usize
     ensures within { result ≤ length blocks.now }
-    ensures place { (d : Descr) → d.id ≡ id.now → insert blocks.now result d ≡ placed d blocks.now }
+    ensures place { (d : Descr) → d.id ≡ id.now
+        → insert blocks.now result d ≡ placed d blocks.now }
 {
     for (place, block) in blocks.iter().enumerate() {
         if id.cmp(&block.id).is_lt() {
@@ -138,13 +139,13 @@ pub(crate) fn plan_state<K: Keeper, H: Hash32>(
     ensures judged { (t : ToldWorld) → t.world ≡ world.now → Holds K.held H.digest_of t keeper.old
         → Fits H.digest_of prepared.now.root prepared.now.cells (map t.state parents.now)
         → IsJudged (storing_refusal H.digest_of limit t
-            (with_stored H.digest_of t id.now parents.now tops.now prepared.now) prepared.now.cells) result }
+        (with_stored H.digest_of t id.now parents.now tops.now prepared.now) prepared.now.cells) result }
     ensures planned { IfOk result (λ plan. (t : ToldWorld) → t.world ≡ world.now
         → Holds K.held H.digest_of t keeper.old
         → Fits H.digest_of prepared.now.root prepared.now.cells (map t.state parents.now)
         → let v = with_stored H.digest_of t id.now parents.now tops.now prepared.now in
         (news : List Tree) × AreAdded H.digest_of (shown t) (shown v)
-            (block_of v (stored id.now parents.now tops.now prepared.now) ∷ []) news plan) }
+        (block_of v (stored id.now parents.now tops.now prepared.now) ∷ []) news plan) }
     ensures keeps { KeepsHeld K.held K.trail K.batches keeper.old keeper.new }
     ensures reads { K.reads keeper.new ≤ K.reads keeper.old + (5 * length prepared.now.cells + 1) }
     ensures cause { HasCountCause (K.faults keeper.old) (K.faults keeper.new) result }
@@ -153,8 +154,8 @@ pub(crate) fn plan_state<K: Keeper, H: Hash32>(
     plan_add(alloc, keeper, prepared, limit)
 }
 
-/// Puts a block into the world and, by a plan that has its references, into the keeper, from which these blocks go.
-/// Each growth comes before the batch.
+/// Puts a block into the world and, by a plan that has its references, into the keeper, from which these
+/// blocks go. Each growth comes before the batch.
 pub(crate) fn store_block<K: Keeper>(
     alloc: Global,
     keeper: &mut K,
@@ -166,7 +167,8 @@ pub(crate) fn store_block<K: Keeper>(
     requires fit { IsDescrFit descr }
     requires once { IsDistinct same_key (map key_of gone.items ++ key_of descr.id ∷ []) }
     ensures world { OnOk result (world.new ≡ with_block world.old descr) }
-    ensures made { OnOk result (IsPlanMade K.held K.trail K.batches plan descr gone.items keeper.old keeper.new) }
+    ensures made { OnOk result (IsPlanMade K.held K.trail K.batches
+        plan descr gone.items keeper.old keeper.new) }
     ensures still { OnErr result (world.new ≡ world.old) }
     ensures undone { OnErr result (KeepsHeld K.held K.trail K.batches keeper.old keeper.new) }
     ensures cause { HasKeepCause (K.faults keeper.old) (K.faults keeper.new) result }
@@ -189,12 +191,7 @@ pub(crate) fn store_block<K: Keeper>(
 }
 
 /// The batch of a plan that puts one description and drops some.
-fn batch_with(
-    alloc: Global,
-    plan: Plan,
-    descr: &Descr,
-    gone: Vec<BlockId>,
-) -> Result<Batch, Memory>
+fn batch_with(alloc: Global, plan: Plan, descr: &Descr, gone: Vec<BlockId>) -> Result<Batch, Memory>
     requires fit { IsDescrFit descr.now }
     requires once { IsDistinct same_key (map key_of gone.items ++ key_of descr.now.id ∷ []) }
     ensures cells { IfOk result (λ batch. IsCellBatch plan batch) }

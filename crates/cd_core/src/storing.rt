@@ -42,7 +42,8 @@ impl<K: Keeper, H: Hash32> Core<K, H> {
         ensures stored { IfOk result (IsStored prepared) }
         ensures cause { RisesOnly (is_keeper (zero_reply result))
             (K.faults self.old.keeper) (K.faults self.new.keeper) }
-        ensures reads { K.reads self.new.keeper ≤ K.reads self.old.keeper + (5 * length prepared.cells + 1) }
+        ensures reads { K.reads self.new.keeper
+            ≤ K.reads self.old.keeper + (5 * length prepared.cells + 1) }
     {
         let Ok(()) = make_room(&mut self.journal, who) else {
             return Err(ZeroFault::Memory);
@@ -59,7 +60,12 @@ impl<K: Keeper, H: Hash32> Core<K, H> {
             &prepared,
         );
         let reply = zero_reply(&answer);
-        note(&mut self.journal, who, Event::Zero { id, tops, prepared }, reply);
+        note(
+            &mut self.journal,
+            who,
+            Event::Zero { id, tops, prepared },
+            reply,
+        );
         answer
     }
 }
@@ -79,7 +85,8 @@ fn store_zero<K: Keeper, H: Hash32>(
     requires limit { limit ≤ GREATEST_COUNT }
     requires tops { MayName id.now tops.now }
     requires whole { Fits H.digest_of prepared.now.root prepared.now.cells [] }
-    ensures did { Did K.held H.digest_of K.trail {X = H} K.batches K.faults limit world.old keeper.old who
+    ensures did { Did K.held H.digest_of K.trail {X = H} K.batches K.faults limit
+        world.old keeper.old who
         (Zero id.now tops.now prepared.now) (zero_reply result) world.new keeper.new }
     ensures stored { IfOk result (IsStored prepared.now) }
     ensures reads { K.reads keeper.new ≤ K.reads keeper.old + (5 * length prepared.now.cells + 1) }
@@ -102,13 +109,10 @@ fn store_zero<K: Keeper, H: Hash32>(
 }
 
 /// Why the world refuses a zero state.
-fn zero_refusal<H: Hash32>(
-    world: &World,
-    id: &BlockId,
-    prepared: &Prepared<H>,
-) -> Option<ZeroFault>
+fn zero_refusal<H: Hash32>(world: &World, id: &BlockId, prepared: &Prepared<H>) -> Option<ZeroFault>
     ensures refusal { option_and_then replies.zero_refusal result
-        ≡ option_or (known world.now id.now) (option_or (unrelated id.now []) (other_root id.now prepared.now)) }
+        ≡ option_or (known world.now id.now)
+        (option_or (unrelated id.now []) (other_root id.now prepared.now)) }
     ensures kind { IfSome result IsOfWorld }
 {
     if find_block(world, id).is_some() {

@@ -18,7 +18,7 @@ returns-then-count-eq0-clause-did g c =
     let k = g.K.Keeper in
     let found = c.in-Ok.ensures.found in
     λ limit low. quiet-expired g.row.H.Denot k.held g.H.Hash32.digest_of k.trail k.batches k.faults limit low c.args.world.now c.args.keeper.now c.args.who c.args.id.now c.requires.kept
-          c.in-Ok.master found.0 found.1 (c.len.result + c.len-2.result) (omega (arith, c.len.ensures, c.len-2.ensures, c.in-Ok-list_passed.passed.roots.ok.0, c.in-Ok-list_passed.passed.leaving.ok.0, c.in-Ok-list_passed.ensures.counted)) c.if-count-eq0.true
+    c.in-Ok.master found.0 found.1 (c.len.result + c.len-2.result) (omega (arith, c.len.ensures, c.len-2.ensures, c.in-Ok-list_passed.passed.roots.ok.0, c.in-Ok-list_passed.passed.leaving.ok.0, c.in-Ok-list_passed.ensures.counted)) c.if-count-eq0.true
 
 pub returns-in-Ok-drop_passed-clause-did : goal.returns-in-Ok-drop_passed-clause-did
 returns-in-Ok-drop_passed-clause-did g c =
@@ -28,11 +28,11 @@ returns-in-Ok-drop_passed-clause-did g c =
     let found = c.in-Ok.ensures.found in
     let cause = c.in-Ok-drop_passed.ensures.cause in
     λ limit low. passed-did g.row.H.Denot k.held g.H.Hash32.digest_of k.trail k.batches k.faults limit low w c.args.keeper.now c.args.who c.args.id.now c.requires.kept
-          m found.0 found.1 (c.len.result + c.len-2.result) (omega (arith, c.len.ensures, c.len-2.ensures, c.in-Ok-list_passed.passed.roots.ok.0, c.in-Ok-list_passed.passed.leaving.ok.0, c.in-Ok-list_passed.ensures.counted)) c.if-count-eq0.false c.drop_passed.new.keeper
-          (record w { blocks = c.expire.new.self })
-          (ap (λ (bs : List Descr). record w { blocks = bs }) (c.expire.ensures
-          ∙ ap (λ (ps : List PinRow). map (marked m) (filter (λ (d : Descr). not (is_expired m d && not (is_pinned ps d.id))) w.blocks)) c.as_slice.ensures))
-          c.in-Ok-drop_passed.ensures.done cause.steady
+    m found.0 found.1 (c.len.result + c.len-2.result) (omega (arith, c.len.ensures, c.len-2.ensures, c.in-Ok-list_passed.passed.roots.ok.0, c.in-Ok-list_passed.passed.leaving.ok.0, c.in-Ok-list_passed.ensures.counted)) c.if-count-eq0.false c.drop_passed.new.keeper
+    (record w { blocks = c.expire.new.self })
+    (ap (λ (bs : List Descr). record w { blocks = bs }) (c.expire.ensures
+    ∙ ap (λ (ps : List PinRow). map (marked m) (filter (λ (d : Descr). not (is_expired m d && not (is_pinned ps d.id))) w.blocks)) c.as_slice.ensures))
+    c.in-Ok-drop_passed.ensures.done cause.steady
 
 pub returns-in-Err-Failed-clause-did : goal.returns-in-Err-Failed-clause-did
 returns-in-Err-Failed-clause-did g c =
@@ -40,11 +40,11 @@ returns-in-Err-Failed-clause-did g c =
     let found = c.in-Ok.ensures.found in
     let cause = c.in-Err-Failed.ensures.cause in
     λ limit low. passing-failed g.row.H.Denot k.held g.H.Hash32.digest_of k.trail k.batches k.faults limit low c.args.world.now c.args.keeper.now c.args.who c.args.id.now c.requires.kept
-          c.in-Ok.master found.0 found.1 (c.len.result + c.len-2.result) (omega (arith, c.len.ensures, c.len-2.ensures, c.in-Ok-list_passed.passed.roots.ok.0, c.in-Ok-list_passed.passed.leaving.ok.0, c.in-Ok-list_passed.ensures.counted)) c.if-count-eq0.false c.drop_passed.new.keeper
-          c.in-Err-Failed.ensures.undone cause.later (rw c.in-Err-Failed.field-0-is at c.in-Err-Failed.ensures.cause.caused)
+    c.in-Ok.master found.0 found.1 (c.len.result + c.len-2.result) (omega (arith, c.len.ensures, c.len-2.ensures, c.in-Ok-list_passed.passed.roots.ok.0, c.in-Ok-list_passed.passed.leaving.ok.0, c.in-Ok-list_passed.ensures.counted)) c.if-count-eq0.false c.drop_passed.new.keeper
+    c.in-Err-Failed.ensures.undone cause.later (rw c.in-Err-Failed.field-0-is at c.in-Err-Failed.ensures.cause.caused)
 
 pub returns-clause-did : goal.returns-clause-did
 returns-clause-did g c =
     let k = g.K.Keeper in
     λ limit low. passing-wanting g.row.H.Denot k.held g.H.Hash32.digest_of k.trail k.batches k.faults limit low c.args.world.now c.args.keeper.now c.args.who c.args.id.now c.requires.kept
-          c.drop_passed.new.keeper c.in-Err-Memory.ensures.undone (rw c.in-Err-Memory.field-0-is at c.in-Err-Memory.ensures.cause.caused)
+    c.drop_passed.new.keeper c.in-Err-Memory.ensures.undone (rw c.in-Err-Memory.field-0-is at c.in-Err-Memory.ensures.cause.caused)

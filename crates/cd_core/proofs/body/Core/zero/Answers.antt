@@ -28,4 +28,3 @@ returns-clause-adds g c =
     subst (λ (v : CoreView g.row.K.Denot g.row.H.Denot). Adds k.held g.H.Hash32.digest_of v.start v.journal c.args.who (Zero c.args.id c.args.tops c.args.prepared) (zero_reply c.store_zero-answer.result) c.note.new.journal) c.self.view_is
     (adds-step k.held g.H.Hash32.digest_of k.trail k.batches k.faults start es c.note.new.journal c.self.inside.world c.store_zero-answer.new.world c.self.inside.keeper c.store_zero-answer.new.keeper c.args.who (Zero c.args.id c.args.tops c.args.prepared) (zero_reply c.store_zero-answer.result)
     c.self.invariant.0 c.self.invariant.1 c.store_zero-answer.ensures.did noted)
-
