@@ -12,6 +12,7 @@ pub mod InTurn
 pub mod Journaling
 pub mod Keepings
 pub mod Leading
+pub mod MergeDid
 pub mod Merged
 pub mod Passed
 pub mod Places

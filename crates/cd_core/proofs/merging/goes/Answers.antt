@@ -13,8 +13,8 @@ pub returns-in-Some : goal.returns-in-Some
 returns-in-Some c =
     let w = c.args.world.now in
     let ends = c.args.ends.now in
-    goes-second w ends.first c.in-Some.second.now ends.second c.args.block.now c.waits_for-in-Some.result (first-goes w ends.first c.args.block.now ∙ sym c.waits_for.ensures ∙ c.if-waits_for.false) c.in-Some.is
-    (c.waits_for-in-Some.ensures ∙ sym (second-goes w ends.first c.args.block.now c.in-Some.second.now))
+    goes-second w ends.first c.in-Some.second ends.second c.args.block.now c.waits_for-in-Some.result (first-goes w ends.first c.args.block.now ∙ sym c.waits_for.ensures ∙ c.if-waits_for.false) c.in-Some.is
+    (c.waits_for-in-Some.ensures ∙ sym (second-goes w ends.first c.args.block.now c.in-Some.second))
 
 pub returns-in-None : goal.returns-in-None
 returns-in-None c =
