@@ -16,6 +16,10 @@ module _ (digest : List ℕ → Hash256) where
   abbrev pub IsFoundAt : Option Tree → Hash256 → Option FaceView → Type 0
   IsFoundAt told hash found = (t s : Tree) → told ≡ Some t → Contains (subtrees t) s → rep_of digest s ≡ hash → found ≡ Some (face_of digest s)
 
+  -- the face of the state's root
+  abbrev pub IsRootFace : Option Tree → FaceView → Type 0
+  IsRootFace told face = (t : Tree) → told ≡ Some t → face ≡ face_of digest t
+
   -- what the root of the state shows
   abbrev pub IsRootOf : Option Tree → ChildInfo → Type 0
   IsRootOf told root = (t : Tree) → told ≡ Some t → root ≡ info_of digest t

@@ -1,9 +1,11 @@
 -- Trusted: where a path leads in a tree.
-use Rattle.std.specs.Prelude.{◌≡◌, ◌<◌, ◌+◌, ℕ, List, [], ◌∷◌, length, take, slice_get, Option, Some, None, IsSome, Result, Ok, Err}
+use Rattle.std.specs.Prelude.{◌≡◌, ◌<◌, ◌+◌, ℕ, List, [], ◌∷◌, length, take, slice_get, Option, Some, None, IsSome, Result, Ok, Err, Bool, false}
 use Rattle.std.specs.Option.{option_and_then}
 use Rattle.cd_base.specs.declared.hash.Hash256.{Hash256}
 use Rattle.cd_cell.specs.FaceView.{FaceView}
 use Rattle.cd_cell.specs.Tree.{Tree, children, face_of}
+use Rattle.cd_event.specs.Replies.{look_reply}
+use Rattle.cd_event.specs.Turning.{is_keeper}
 use Rattle.cd_reader.specs.declared.walk_fault.WalkFault.{WalkFault}
 use Rattle.cd_reader.specs.declared.walk_fault.WalkFault.TheVariants.{NoChild, Look, Memory}
 
@@ -25,3 +27,8 @@ module _ (digest : List ℕ → Hash256) where
   WalksTo t path (Err (NoChild at)) = IsFirstMissing path t at
   WalksTo t path (Err (Look fault)) = Unit {0}
   WalksTo t path (Err Memory) = Unit {0}
+
+-- whether a look of the walk failed
+abbrev pub is_walk_failed : {A : Type 0} → Result A WalkFault → Bool
+is_walk_failed (Err (Look fault)) = is_keeper (look_reply {A = Unit {0}} (Err fault))
+is_walk_failed _ = false

@@ -16,13 +16,11 @@ pub fn recall(held: &mut Cache, hash: &Hash256) -> Option<Face>
     ensures held { held.new.entries ≡ held_after hash.now result held.old.cap held.old.entries }
     ensures room { held.new.cap ≡ held.old.cap }
 {
-    if !held.promote(hash) {
-        return None;
-    }
-    match held.peek_mru() {
-        Some((_, face)) => Some(*face),
-        None => None,
-    }
+    // The hash stands at most once, and no more are held than there is room for.
+    let _ = held.len();
+    let face = held.peek(hash).copied()?;
+    let _ = held.promote(hash);
+    Some(face)
 }
 
 // Holds a face under a hash that isn't held. At want of memory nothing changes.
@@ -33,6 +31,7 @@ pub fn hold(held: &mut Cache, hash: &Hash256, face: &Face) -> Result<(), Memory>
     ensures room { held.new.cap ≡ held.old.cap }
     ensures err { OnErr result (held.new.entries ≡ held.old.entries) }
 {
+    let _ = held.len();
     match held.put(*hash, *face) {
         Ok(_) => Ok(()),
         Err(_) => Err(Memory),

@@ -1,3 +1,6 @@
+ghost use Rattle.std.specs.Prelude.{◌≡◌};
+ghost use Rattle.cd_reader.specs.Faults.{walk_fault};
+
 use cd_event::LookFault;
 use thiserror::Error;
 
@@ -13,4 +16,14 @@ pub enum WalkFault {
     /// Memory ran out.
     #[error("out of memory")]
     Memory,
+}
+
+// A look's fault as a walk's: want of memory is its own.
+pub fn walk_fault(fault: LookFault) -> WalkFault
+    ensures { result ≡ walk_fault fault }
+{
+    match fault {
+        LookFault::Memory => WalkFault::Memory,
+        fault => WalkFault::Look(fault),
+    }
 }

@@ -1,0 +1,17 @@
+use Rattle.std.proofs.Common.{rules, ◌≡◌, ◌≢◌, ◌+◌, ◌<◌, ◌≤◌, ℕ, length, Ok, Err, Some, None, [], IfOk, IfErr, OnOk, OnErr, IfSome, ◌-◌, ◌*◌, ◌/◌, ◌%◌, Bool, true, false, nat_eq, nat_lt, List, ◌∷◌, ◌++◌, slice_index_or, slice_set, bit_and, bit_or, Fits, w8, w32, w64, Bor, MutBor}
+use Rattle.cd_cell.specs.Infos.{rep_of_info}
+use Rattle.cd_cell.specs.GoodFace.{IsGoodFace}
+use Rattle.cd_event.specs.Replies.{look_reply}
+use Rattle.cd_event.specs.Turning.{AskedAfter, HandsOn, RisesOnly, is_keeper}
+use Rattle.cd_reader.specs.Answers.{IsFaceAt, IsFoundAt, IsRootOf, IsRootFace, AskedAtMost}
+use Rattle.cd_reader.specs.Held.{AreGoodCells, AreCellsOf, IsVisited, held_at, held_after}
+use Rattle.cd_reader.specs.Paths.{WalksTo, is_walk_failed}
+use Rattle.cd_reader.proofs.reader.Reader.visit.Goals as goal
+
+-- src/reader.rt:174:5
+pub returns-in-Ok-clause-face : goal.returns-in-Ok-clause-face
+returns-in-Ok-clause-face g c = ?
+
+-- src/reader.rt:174:5
+pub returns-in-Ok-clause-good : goal.returns-in-Ok-clause-good
+returns-in-Ok-clause-good g c = ?
