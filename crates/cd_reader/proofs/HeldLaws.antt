@@ -1,6 +1,6 @@
 -- What is held before and after a load.
-use Rattle.std.proofs.Common.{◌≡◌, ℕ, zero, suc, ◌+◌, ◌-◌, ◌≤◌, ◌<◌, Bool, true, false, List, [], ◌∷◌, length, take, Contains, Option, Some, None, refl, sym, ap, ◌∙◌, subst, arith}
-use Rattle.std.specs.Prelude.{All, cond}
+use Rattle.std.proofs.Common.{◌≡◌, ℕ, zero, suc, ◌+◌, ◌-◌, ◌≤◌, ◌<◌, Bool, true, false, List, [], ◌∷◌, length, take, Contains, Option, Some, None, refl, sym, ap, ◌∙◌, subst, arith, lit≤}
+use Rattle.std.specs.Prelude.{All, cond, if◌then◌else◌, IfOk, IfSome, OnErr, Result, Ok, Err}
 use Rattle.std.specs.Map.{lookup, lookup_entry, remove_entry}
 use Rattle.std.proofs.lemmas.List.{take_all}
 use Rattle.std.proofs.lemmas.List.Elements.{All-cons, All-nil, All-take, All-contains, All-pop}
@@ -10,6 +10,11 @@ use Rattle.cd_base.specs.declared.hash.Hash256.{Hash256}
 use Rattle.cd_cell.specs.Equality.{same_hash, same_hash-Decides}
 use Rattle.cd_cell.specs.FaceView.{FaceView}
 use Rattle.cd_cell.proofs.Subtrees.{Contains-first, Contains-later}
+use Rattle.cd_cell.specs.Tree.{Tree}
+use Rattle.cd_event.specs.declared.faults.LookFault.{LookFault}
+use Rattle.cd_cell.specs.GoodFace.{IsGoodFace}
+use Rattle.cd_cell.specs.Levels.{plain_depth}
+use Rattle.cd_reader.specs.Answers.{IsFoundAt, IsFaceAt, empty_face, face_or_empty}
 use Rattle.cd_reader.specs.Held.{held_at, held_after}
 
 module _ {K V : Type 0} (test : K → Bool) where
@@ -17,7 +22,7 @@ module _ {K V : Type 0} (test : K → Bool) where
   pub entry_found : (es : List (K × V)) (v : V) → lookup test es ≡ Some v → (e : K × V) × (lookup_entry test es ≡ Some e) × (e.1 ≡ v)
   entry_found [] v h = cc
   entry_found (f ∷ es) v h = (elim (test f.0) as (λ y. cond y (Some f.1) (lookup test es) ≡ Some v → (e : K × V) × (cond y (Some f) (lookup_entry test es) ≡ Some e) × (e.1 ≡ v)) [
-    | true ↦ λ h. (f, (refl, cc))
+    | true ↦ λ h. (f, refl, cc)
     | false ↦ λ h. entry_found es v h
   ]) h
 
@@ -67,10 +72,6 @@ module _ (hash : Hash256) (face : FaceView) (room : ℕ) (held : Held) where
       let less = one_removed (same_hash hash) held (hash, face) entry in
       rw entry (sym (take_all room ((hash, face) ∷ remove_entry (same_hash hash) held) (omega arith)))
 
-  -- a new one is put before the others, of which the last goes where the room is full
-  pub put_new : (cache : LruCache Hash256 FaceView) → cache.entries ≡ held → cache.cap ≡ room → 0 < room → held_at held hash ≡ None → put_entries same_hash cache hash face ≡ held_after hash (Some face) room held
-  put_new cache is cap some h = ?
-
   -- a fact of each held face stays, where it holds of the one that comes
   pub All-held_after : (P : Hash256 × FaceView → Type 0) → P (hash, face) → All P held → All P (held_after hash (Some face) room held)
   All-held_after P first all = All-take P room ((hash, face) ∷ remove_entry (same_hash hash) held) (All-cons P (hash, face) (remove_entry (same_hash hash) held) first (All-removed (same_hash hash) P held all))
@@ -78,3 +79,52 @@ module _ (hash : Hash256) (face : FaceView) (room : ℕ) (held : Held) where
   -- and holds of the one that is found
   pub All-held_at : (P : Hash256 × FaceView → Type 0) → All P held → held_at held hash ≡ Some face → P (hash, face)
   All-held_at P all h = All-contains P held (hash, face) all (Contains-lookup_entry (same_hash hash) held (hash, face) (its_entry h)).0
+
+take_cons : {A : Type 0} (n : ℕ) (x : A) (xs : List A) → 0 < n → x ∷ take (n - 1) xs ≡ take n (x ∷ xs)
+take_cons zero x xs some = absurd (omega arith)
+take_cons (suc n) x xs some = ap (λ (m : ℕ). x ∷ take m xs) (omega arith)
+
+-- a new hash is put before the others, of which the last goes where there is no more room
+pub put_new : (cache : LruCache Hash256 FaceView) (hash : Hash256) (face : FaceView) → 0 < cache.cap → held_at cache.entries hash ≡ None
+    → put_entries same_hash cache hash face ≡ held_after hash (Some face) cache.cap cache.entries
+put_new cache hash face some h =
+    rw (no_entry (same_hash hash) cache.entries h) (rw (nothing_removed (same_hash hash) cache.entries h) (take_cons cache.cap (hash, face) cache.entries some))
+
+-- a fact of each held face stays over a load that found none or one of which it holds
+pub All-after_load : (P : Hash256 × FaceView → Type 0) (hash : Hash256) (room : ℕ) (old new : Held) (result : Result (Option FaceView) LookFault)
+    → IfOk result (λ found. new ≡ held_after hash found room old) → OnErr result (new ≡ old) → IfOk result (λ found. IfSome found (λ face. P (hash, face)))
+    → All P old → All P new
+All-after_load P hash room old new (Ok None) held same first all = subst (All P) (sym held) all
+All-after_load P hash room old new (Ok (Some face)) held same first all = subst (All P) (sym held) (All-held_after hash face room old P first all)
+All-after_load P hash room old new (Err fault) held same first all = subst (All P) (sym same) all
+
+-- what is found is the face of each cell with the hash
+pub found_face : (digest : List ℕ → Hash256) (told : Option Tree) (hash : Hash256) (result : Result (Option FaceView) LookFault)
+    → IfOk result (IsFoundAt digest told hash) → IfOk result (λ found. IfSome found (IsFaceAt digest told hash))
+found_face digest told hash (Ok None) found = tt
+found_face digest told hash (Ok (Some face)) found = λ t s is here same. let e = found t s is here same in cc
+found_face digest told hash (Err fault) found = tt
+
+pub face_given : (found : Option FaceView) (face : FaceView) → found ≡ Some face → face_or_empty found ≡ face
+face_given found face is = ap face_or_empty is
+
+-- the empty cell's face passes the check
+no_depth : (l : ℕ) → plain_depth empty_face l ≡ 0
+unfolding plain_depth
+no_depth zero = refl
+no_depth (suc l) = if_zero _ _ (no_depth l)
+  where
+    if_zero : (b : Bool) (n : ℕ) → n ≡ 0 → (if b then 0 else n) ≡ 0
+    if_zero true n is = refl
+    if_zero false n is = is
+
+empty_is_good : IsGoodFace empty_face
+empty_is_good = record {
+  bits = lit≤ tt;
+  kids = lit≤ tt;
+  fit = record { known = λ e. cc; pruned = λ e. cc; library = λ e. cc; proof = λ e. cc; update = λ e. cc; depths = λ l few. let none = no_depth l in omega arith };
+}
+
+pub good_given : (found : Option FaceView) → IfSome found IsGoodFace → IsGoodFace (face_or_empty found)
+good_given None good = empty_is_good
+good_given (Some face) good = good

@@ -7,8 +7,8 @@ ghost use Rattle.cd_reader.specs.Answers.{IsFaceAt, IsFoundAt, IsRootOf, IsRootF
 ghost use Rattle.cd_reader.specs.Held.{AreGoodCells, AreCellsOf, IsVisited, held_at, held_after};
 ghost use Rattle.cd_reader.specs.Paths.{WalksTo, is_walk_failed};
 
-use crate::cache::{Cache, hold, recall};
-use crate::loading::{face_or_empty, look_once};
+use crate::cache::{Cache, recall};
+use crate::loading::{face_or_empty, look_and_hold};
 use crate::walk_fault::{WalkFault, walk_fault};
 use cd_base::{Hash256, Memory};
 use cd_cell::{ChildInfo, Face};
@@ -72,6 +72,7 @@ impl<L: LookUp> Reader<L> {
             (λ face. (result ≡ Ok (Some face)) × (self.new.look ≡ self.old.look)) }
         ensures miss { held_at self.old.held.entries hash.now ≡ None
             → AskedAfter result 1 (L.asked self.old.look) (L.asked self.new.look) }
+        ensures asked { AskedAtMost 1 (L.asked self.old.look) (L.asked self.new.look) }
 
         // Which cells are held.
         ensures held { IfOk result (λ found. self.new.held.entries
@@ -85,16 +86,9 @@ impl<L: LookUp> Reader<L> {
         ensures faults { RisesOnly (is_keeper (look_reply result))
             (L.faults self.old.look) (L.faults self.new.look) }
     {
-        if let Some(face) = recall(&mut self.held, hash) {
-            return Ok(Some(face));
-        }
-        match look_once(&mut self.look, hash) {
-            Ok(Some(face)) => match hold(&mut self.held, hash, &face) {
-                Ok(()) => Ok(Some(face)),
-                Err(_) => Err(LookFault::Memory),
-            },
-            Ok(None) => Ok(None),
-            Err(fault) => Err(fault),
+        match recall(&mut self.held, hash) {
+            Some(face) => Ok(Some(face)),
+            None => look_and_hold(&mut self.look, &mut self.held, hash),
         }
     }
 
@@ -115,6 +109,7 @@ impl<L: LookUp> Reader<L> {
             (λ face. (result ≡ Ok face) × (self.new.look ≡ self.old.look)) }
         ensures miss { held_at self.old.held.entries (rep_of_info self.old.root) ≡ None
             → AskedAfter result 1 (L.asked self.old.look) (L.asked self.new.look) }
+        ensures asked { AskedAtMost 1 (L.asked self.old.look) (L.asked self.new.look) }
 
         // Which cells are held.
         ensures held { IfOk result (λ face. IsVisited (rep_of_info self.old.root) face self.old.held self.new.held) }
@@ -182,6 +177,7 @@ impl<L: LookUp> Reader<L> {
             (λ face. (result ≡ Ok face) × (self.new.look ≡ self.old.look)) }
         ensures miss { held_at self.old.held.entries hash.now ≡ None
             → AskedAfter result 1 (L.asked self.old.look) (L.asked self.new.look) }
+        ensures asked { AskedAtMost 1 (L.asked self.old.look) (L.asked self.new.look) }
         ensures held { IfOk result (λ face. IsVisited hash.now face self.old.held self.new.held) }
         ensures err { OnErr result (self.new.held.entries ≡ self.old.held.entries) }
         ensures room { self.new.held.cap ≡ self.old.held.cap }

@@ -1,9 +1,10 @@
-use Rattle.std.proofs.Common.{rules, ◌≡◌, ◌∷◌, take, Some, None, OnOk, OnErr, ℕ, ◌+◌, ◌-◌, ◌*◌, ◌<◌, ◌≤◌, length, ◌/◌, ◌%◌, Bool, true, false, nat_eq, nat_lt, List, [], ◌++◌, slice_index_or, slice_set, bit_and, bit_or, Fits, w8, w32, w64, Bor, MutBor}
-use Rattle.std.specs.Map.{remove_entry}
-use Rattle.cd_cell.specs.Equality.{same_hash}
-use Rattle.cd_reader.specs.Held.{held_at, held_after}
+use Rattle.std.proofs.Common.{ap, ◌∙◌}
+use Rattle.lru.specs.LruCache.{LruCache}
+use Rattle.cd_base.specs.declared.hash.Hash256.{Hash256}
+use Rattle.cd_cell.specs.FaceView.{FaceView}
+use Rattle.cd_reader.proofs.HeldLaws.{put_new}
 use Rattle.cd_reader.proofs.cache.hold.Goals as goal
 
--- src/cache.rt:27:1
 pub returns-in-Ok-clause-held : goal.returns-in-Ok-clause-held
-returns-in-Ok-clause-held c = ?
+returns-in-Ok-clause-held c =
+    ap (λ (l : LruCache Hash256 FaceView). l.entries) c.in-Ok.ensures.entries ∙ put_new c.args.held.now c.args.hash.now c.args.face.now c.len.ensures.valid.2 c.requires

@@ -1,9 +1,13 @@
-use Rattle.std.proofs.Common.{rules, ◌≡◌, ◌∷◌, take, Some, None, OnOk, OnErr, ℕ, ◌+◌, ◌-◌, ◌*◌, ◌<◌, ◌≤◌, length, ◌/◌, ◌%◌, Bool, true, false, nat_eq, nat_lt, List, [], ◌++◌, slice_index_or, slice_set, bit_and, bit_or, Fits, w8, w32, w64, Bor, MutBor}
-use Rattle.std.specs.Map.{remove_entry}
-use Rattle.cd_cell.specs.Equality.{same_hash}
-use Rattle.cd_reader.specs.Held.{held_at, held_after}
+use Rattle.std.proofs.Common.{◌≡◌, ◌≤◌, length, Some, sym, ap, ◌∙◌}
+use Rattle.lru.specs.LruCache.{LruCache}
+use Rattle.cd_base.specs.declared.hash.Hash256.{Hash256}
+use Rattle.cd_cell.specs.FaceView.{FaceView}
+use Rattle.cd_reader.specs.Held.{held_at}
+use Rattle.cd_reader.proofs.HeldLaws.{put_first}
 use Rattle.cd_reader.proofs.cache.recall.Goals as goal
 
--- src/cache.rt:14:1
 pub returns-clause-held : goal.returns-clause-held
-returns-clause-held c = ?
+returns-clause-held c =
+    let found : held_at c.args.held.now.entries c.args.hash.now ≡ Some c.in_ok-face.face = sym c.peek.ensures ∙ (sym c.copied.ensures ∙ c.in_ok-face.was) in
+    ap (λ (l : LruCache Hash256 FaceView). l.entries) c.promote.ensures.entries
+    ∙ put_first c.args.hash.now c.in_ok-face.face c.args.held.now.cap c.args.held.now.entries c.len.ensures.valid.1 found

@@ -1,17 +1,13 @@
-use Rattle.std.proofs.Common.{rules, ◌≡◌, ◌≢◌, ◌+◌, ◌<◌, ◌≤◌, ℕ, length, Ok, Err, Some, None, [], IfOk, IfErr, OnOk, OnErr, IfSome, ◌-◌, ◌*◌, ◌/◌, ◌%◌, Bool, true, false, nat_eq, nat_lt, List, ◌∷◌, ◌++◌, slice_index_or, slice_set, bit_and, bit_or, Fits, w8, w32, w64, Bor, MutBor}
-use Rattle.cd_cell.specs.Infos.{rep_of_info}
+use Rattle.std.proofs.Common.{◌≡◌, Some, None, sym, ap, subst}
+use Rattle.cd_cell.specs.FaceView.{FaceView}
 use Rattle.cd_cell.specs.GoodFace.{IsGoodFace}
-use Rattle.cd_event.specs.Replies.{look_reply}
-use Rattle.cd_event.specs.Turning.{AskedAfter, HandsOn, RisesOnly, is_keeper}
-use Rattle.cd_reader.specs.Answers.{IsFaceAt, IsFoundAt, IsRootOf, IsRootFace, AskedAtMost}
-use Rattle.cd_reader.specs.Held.{AreGoodCells, AreCellsOf, IsVisited, held_at, held_after}
-use Rattle.cd_reader.specs.Paths.{WalksTo, is_walk_failed}
+use Rattle.cd_reader.specs.Answers.{face_or_empty}
+use Rattle.cd_reader.proofs.HeldLaws.{face_given, good_given}
 use Rattle.cd_reader.proofs.reader.Reader.visit.Goals as goal
 
--- src/reader.rt:174:5
 pub returns-in-Ok-clause-face : goal.returns-in-Ok-clause-face
-returns-in-Ok-clause-face g c = ?
+returns-in-Ok-clause-face g c = λ t s is here same.
+    rw c.face_or_empty.ensures (face_given c.in-Ok.found _ (c.in-Ok.ensures.face t s is here same))
 
--- src/reader.rt:174:5
 pub returns-in-Ok-clause-good : goal.returns-in-Ok-clause-good
-returns-in-Ok-clause-good g c = ?
+returns-in-Ok-clause-good g c = subst IsGoodFace (sym c.face_or_empty.ensures) (good_given c.in-Ok.found c.in-Ok.ensures.good)

@@ -1,12 +1,20 @@
-use Rattle.std.proofs.Common.{◌≡◌, ◌≢◌, ◌+◌, ◌<◌, ◌≤◌, ℕ, length, Ok, Err, Some, None, [], IfOk, IfErr, OnOk, OnErr, IfSome, ◌-◌, ◌*◌}
-use Rattle.cd_cell.specs.Infos.{rep_of_info}
+use Rattle.std.proofs.Common.{◌≡◌, ◌+◌, ◌≤◌, take}
 use Rattle.cd_cell.specs.GoodFace.{IsGoodFace}
-use Rattle.cd_event.specs.Replies.{look_reply}
-use Rattle.cd_event.specs.Turning.{AskedAfter, HandsOn, RisesOnly, is_keeper}
-use Rattle.cd_reader.specs.Answers.{IsFaceAt, IsFoundAt, IsRootOf, IsRootFace, AskedAtMost}
-use Rattle.cd_reader.specs.Held.{AreGoodCells, AreCellsOf, IsVisited, held_at, held_after}
-use Rattle.cd_reader.specs.Paths.{WalksTo, is_walk_failed}
+use Rattle.cd_reader.specs.Answers.{AskedAtMost}
+use Rattle.cd_reader.proofs.PathLaws.{IsAlong}
 use Rattle.cd_reader.proofs.reader.Reader.walk.Given as goal
 
 abbrev pub invariant-loop-at : goal.invariant-loop-at
-invariant-loop-at g l = ?
+invariant-loop-at g l =
+    let look = g.L.LookUp in
+    record {
+      along : IsAlong g.L.Hash.Hash32.digest_of (look.tree l.fn.self.look) (take l.at l.path) l.face;
+      good : IsGoodFace l.face;
+      ready : look.ready l.self.look;
+      tree : look.tree l.self.look ≡ look.tree l.fn.self.look;
+      root : l.self.root ≡ l.fn.self.root;
+      room : l.self.held.cap ≡ l.fn.self.held.cap;
+      asked : AskedAtMost (l.at + 1) (look.asked l.fn.self.look) (look.asked l.self.look);
+      went : look.goes l.fn.self.look l.self.look;
+      faults : look.faults l.self.look ≡ look.faults l.fn.self.look;
+    }
