@@ -14,7 +14,7 @@ use Rattle.cd_cell.specs.Tree.{Tree}
 use Rattle.cd_event.specs.declared.faults.LookFault.{LookFault}
 use Rattle.cd_cell.specs.GoodFace.{IsGoodFace}
 use Rattle.cd_cell.specs.Levels.{plain_depth}
-use Rattle.cd_reader.specs.Answers.{IsFoundAt, IsFaceAt, empty_face, face_or_empty}
+use Rattle.cd_looks.specs.Answers.{IsFoundAt, IsFaceAt, empty_face, face_or_empty}
 use Rattle.cd_reader.specs.Held.{held_at, held_after}
 
 module _ {K V : Type 0} (test : K → Bool) where
@@ -104,27 +104,3 @@ pub found_face : (digest : List ℕ → Hash256) (told : Option Tree) (hash : Ha
 found_face digest told hash (Ok None) found = tt
 found_face digest told hash (Ok (Some face)) found = λ t s is here same. let e = found t s is here same in cc
 found_face digest told hash (Err fault) found = tt
-
-pub face_given : (found : Option FaceView) (face : FaceView) → found ≡ Some face → face_or_empty found ≡ face
-face_given found face is = ap face_or_empty is
-
--- the empty cell's face passes the check
-no_depth : (l : ℕ) → plain_depth empty_face l ≡ 0
-unfolding plain_depth
-no_depth zero = refl
-no_depth (suc l) = if_zero _ _ (no_depth l)
-  where
-    if_zero : (b : Bool) (n : ℕ) → n ≡ 0 → (if b then 0 else n) ≡ 0
-    if_zero true n is = refl
-    if_zero false n is = is
-
-empty_is_good : IsGoodFace empty_face
-empty_is_good = record {
-  bits = lit≤ tt;
-  kids = lit≤ tt;
-  fit = record { known = λ e. cc; pruned = λ e. cc; library = λ e. cc; proof = λ e. cc; update = λ e. cc; depths = λ l few. let none = no_depth l in omega arith };
-}
-
-pub good_given : (found : Option FaceView) → IfSome found IsGoodFace → IsGoodFace (face_or_empty found)
-good_given None good = empty_is_good
-good_given (Some face) good = good

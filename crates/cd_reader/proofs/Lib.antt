@@ -1,3 +1,3 @@
 pub mod HeldLaws
 pub mod PathLaws
-pub mod GoingLaws
+pub mod WalkFaults

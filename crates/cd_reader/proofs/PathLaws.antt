@@ -11,7 +11,7 @@ use Rattle.cd_cell.proofs.Subtrees.{subtree-itself, subtrees-child, subtrees-sub
 use Rattle.cd_event.specs.declared.faults.LookFault.{LookFault}
 use Rattle.cd_event.specs.declared.faults.LookFault.TheVariants as look
 use Rattle.cd_reader.specs.declared.walk_fault.WalkFault.TheVariants.{NoChild}
-use Rattle.cd_reader.specs.Answers.{IsRootFace, IsFaceAt}
+use Rattle.cd_looks.specs.Answers.{IsRootFace, IsFaceAt}
 use Rattle.cd_reader.specs.Faults.{walk_fault}
 use Rattle.cd_reader.specs.Paths.{cell_along, IsFirstMissing, WalksTo}
 

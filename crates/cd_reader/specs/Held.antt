@@ -7,7 +7,7 @@ use Rattle.cd_cell.specs.FaceView.{FaceView}
 use Rattle.cd_cell.specs.Equality.{same_hash}
 use Rattle.cd_cell.specs.GoodFace.{IsGoodFace}
 use Rattle.cd_cell.specs.Tree.{Tree}
-use Rattle.cd_reader.specs.Answers.{IsFaceAt, empty_face}
+use Rattle.cd_looks.specs.Answers.{IsFaceAt, empty_face}
 
 -- the face that is held under a hash
 abbrev pub held_at : List (Hash256 × FaceView) → Hash256 → Option FaceView

@@ -4,7 +4,7 @@ use Rattle.cd_base.specs.declared.hash.Hash256.{Hash256}
 use Rattle.cd_cell.specs.FaceView.{FaceView}
 use Rattle.cd_cell.specs.GoodFace.{IsGoodFace}
 use Rattle.cd_cell.specs.Tree.{Tree}
-use Rattle.cd_reader.specs.Answers.{IsRootOf, IsFaceAt}
+use Rattle.cd_looks.specs.Answers.{IsRootOf, IsFaceAt}
 use Rattle.cd_reader.specs.Held.{AreCellsOf, AreGoodCells, held_at}
 use Rattle.cd_reader.proofs.HeldLaws.{All-held_at, All-held_after, All-after_load, found_face}
 use Rattle.cd_reader.proofs.reader.Reader.load.Goals as goal

@@ -5,10 +5,11 @@ use Rattle.cd_cell.specs.FaceView.{FaceView}
 use Rattle.cd_cell.specs.Tree.{Tree}
 use Rattle.cd_event.specs.Turning.{HandsOn, RisesOnly}
 use Rattle.cd_reader.specs.declared.walk_fault.WalkFault.{WalkFault}
-use Rattle.cd_reader.specs.Answers.{IsFaceAt}
+use Rattle.cd_looks.specs.Answers.{IsFaceAt}
 use Rattle.cd_reader.specs.Faults.{walk_fault}
 use Rattle.cd_reader.specs.Paths.{WalksTo, is_walk_failed}
-use Rattle.cd_reader.proofs.GoingLaws.{asked_more, went_on, rises_from, steady_rises, walk_failed}
+use Rattle.cd_looks.proofs.GoingLaws.{asked_more, went_on, rises_from, steady_rises}
+use Rattle.cd_reader.proofs.WalkFaults.{walk_failed}
 use Rattle.cd_reader.proofs.PathLaws.{IsAlong, along_root, along_step, along_end, along_missing, fault_walks}
 use Rattle.cd_reader.proofs.reader.Reader.walk.Goals as goal
 

@@ -1,6 +1,6 @@
 use Rattle.std.proofs.Common.{◌≡◌, ◌+◌, ◌≤◌, take}
 use Rattle.cd_cell.specs.GoodFace.{IsGoodFace}
-use Rattle.cd_reader.specs.Answers.{AskedAtMost}
+use Rattle.cd_looks.specs.Answers.{AskedAtMost}
 use Rattle.cd_reader.proofs.PathLaws.{IsAlong}
 use Rattle.cd_reader.proofs.reader.Reader.walk.Given as goal
 

@@ -1,16 +1,13 @@
 -- What lies between two states of a look.
 use Rattle.std.proofs.Common.{◌≡◌, ℕ, ◌+◌, ◌≤◌, Bool, true, false, Option, Some, None, Result, Ok, Err, refl, sym, ap, ◌∙◌, subst, arith}
-use Rattle.cd_event.specs.declared.faults.LookFault.{LookFault}
-use Rattle.cd_event.specs.declared.faults.LookFault.TheVariants as look
-use Rattle.cd_event.specs.Replies.{look_reply}
-use Rattle.cd_event.specs.Turning.{AskedAfter, HandsOn, RisesOnly, is_keeper, counted}
-use Rattle.cd_reader.specs.Answers.{AskedAtMost}
-use Rattle.cd_reader.specs.Faults.{walk_fault}
-use Rattle.cd_reader.specs.Paths.{is_walk_failed}
+use Rattle.cd_event.specs.Turning.{AskedAfter, HandsOn, RisesOnly, counted}
+use Rattle.cd_looks.specs.Answers.{AskedAtMost}
 
 pub asked_at_most : {A E : Type 0} (result : Result A E) (count before now : ℕ) → AskedAfter result count before now → AskedAtMost count before now
 asked_at_most (Ok found) count before now is = (omega arith, omega arith)
 asked_at_most (Err fault) count before now most = most
+
+-- ---- hashes asked
 
 pub asked_nothing : (count before now : ℕ) → now ≡ before → AskedAtMost count before now
 asked_nothing count before now same = (omega arith, omega arith)
@@ -28,9 +25,3 @@ rises_from failed a b c same rises = subst (λ n. RisesOnly failed n c) same ris
 
 pub steady_rises : (before now : ℕ) → now ≡ before → RisesOnly false before now
 steady_rises before now same = record { later = omega arith; steady = λ _. same; rose = λ never. cc }
-
--- a walk fails by the keeper where its look does
-pub walk_failed : (A B : Type 0) (fault : LookFault) → is_keeper (look_reply {A = A} (Err fault)) ≡ is_walk_failed {A = B} (Err (walk_fault fault))
-walk_failed A B look.NoPin = refl
-walk_failed A B look.Keeper = refl
-walk_failed A B look.Memory = refl

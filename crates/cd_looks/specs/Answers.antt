@@ -1,4 +1,4 @@
--- Trusted: what a look-up answers of the cells of a state, where the state is told.
+-- Trusted: what looks answer of the cells of a state, where the state is told.
 use Rattle.std.specs.Prelude.{◌≡◌, ◌≤◌, ℕ, false, List, [], Contains, Option, Some}
 use Rattle.std.specs.Option.{unwrap_or}
 use Rattle.cd_base.specs.declared.hash.Hash256.{Hash256}

@@ -1,0 +1,13 @@
+//! The export text of a state, cut from a store by offsets.
+#![tactic(auto)]
+
+mod cell_text;
+mod export;
+mod faults;
+mod gather;
+mod order;
+mod plan;
+mod windows;
+
+pub use export::{Export, MOST_SLICE};
+pub use faults::{PlanFault, SliceFault};
