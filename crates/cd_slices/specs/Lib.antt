@@ -1,3 +1,4 @@
 pub mod Faults
 pub mod Windows
 pub mod Planned
+pub mod Gathering

@@ -51,6 +51,9 @@ impl From<LookFault> for PlanFault {
 }
 
 impl From<Memory> for PlanFault {
+    ghost use Rattle.std.specs.Prelude.{◌≡◌};
+    ghost use Rattle.cd_slices.specs.declared.faults.PlanFault.{PlanFault};
+
     ghost from_gives = { λ fault given. given ≡ PlanFault.Memory };
 
     fn from(_fault: Memory) -> PlanFault {
@@ -59,6 +62,9 @@ impl From<Memory> for PlanFault {
 }
 
 impl From<AllocError> for PlanFault {
+    ghost use Rattle.std.specs.Prelude.{◌≡◌};
+    ghost use Rattle.cd_slices.specs.declared.faults.PlanFault.{PlanFault};
+
     ghost from_gives = { λ fault given. given ≡ PlanFault.Memory };
 
     fn from(_fault: AllocError) -> PlanFault {
@@ -67,6 +73,9 @@ impl From<AllocError> for PlanFault {
 }
 
 impl<T: Drop> From<AllocFailed<T>> for PlanFault {
+    ghost use Rattle.std.specs.Prelude.{◌≡◌};
+    ghost use Rattle.cd_slices.specs.declared.faults.PlanFault.{PlanFault};
+
     ghost from_gives = { λ fault given. given ≡ PlanFault.Memory };
 
     fn from(_fault: AllocFailed<T>) -> PlanFault {
@@ -75,6 +84,9 @@ impl<T: Drop> From<AllocFailed<T>> for PlanFault {
 }
 
 impl From<WriteFault> for PlanFault {
+    ghost use Rattle.std.specs.Prelude.{◌≡◌};
+    ghost use Rattle.cd_slices.specs.declared.faults.PlanFault.{PlanFault};
+
     ghost from_gives = { λ fault given. given ≡ PlanFault.Memory };
 
     fn from(_fault: WriteFault) -> PlanFault {
@@ -95,6 +107,9 @@ impl From<LookFault> for SliceFault {
 }
 
 impl From<AllocError> for SliceFault {
+    ghost use Rattle.std.specs.Prelude.{◌≡◌};
+    ghost use Rattle.cd_slices.specs.declared.faults.SliceFault.{SliceFault};
+
     ghost from_gives = { λ fault given. given ≡ SliceFault.Memory };
 
     fn from(_fault: AllocError) -> SliceFault {
@@ -103,6 +118,9 @@ impl From<AllocError> for SliceFault {
 }
 
 impl From<WriteFault> for SliceFault {
+    ghost use Rattle.std.specs.Prelude.{◌≡◌};
+    ghost use Rattle.cd_slices.specs.declared.faults.SliceFault.{SliceFault};
+
     ghost from_gives = { λ fault given. given ≡ SliceFault.Memory };
 
     fn from(_fault: WriteFault) -> SliceFault {

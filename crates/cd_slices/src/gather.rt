@@ -1,7 +1,15 @@
+ghost use Rattle.std.specs.Prelude.{◌≡◌, ◌<◌, ◌≤◌, ℕ, length, Some, Err, IfOk, OnOk};
+ghost use Rattle.cd_cell.specs.Tree.{Tree};
+ghost use Rattle.cd_cell.specs.Export.{distinct_cells};
+ghost use Rattle.cd_event.specs.Turning.{HandsOn, RisesOnly, counted};
+ghost use Rattle.cd_looks.specs.Answers.{IsRootOf};
+ghost use Rattle.cd_slices.specs.Faults.{is_plan_failed};
+ghost use Rattle.cd_slices.specs.Gathering.{AreWholeLists, AreAllCells};
+
 use crate::faults::PlanFault;
 use cd_base::Hash256;
 use cd_cell::{ChildInfo, Face, Index, MOST_CELLS};
-use cd_event::LookUp;
+use cd_event::{LookFault, LookUp};
 use cd_looks::face_or_empty;
 use std::alloc::Global;
 
@@ -35,9 +43,9 @@ impl Gathered {
             return Ok(());
         }
         let place = self.hashes.len();
-        if place >= MOST_CELLS {
+        if place >= MOST_CELLS as usize {
             return Err(PlanFault::TooMany {
-                limit: MOST_CELLS as u64,
+                limit: u64::from(MOST_CELLS),
             });
         }
         self.hashes.push(hash)?;
@@ -61,7 +69,24 @@ pub fn gather<L: LookUp>(
     alloc: Global,
     look: &mut L,
     root: &ChildInfo,
-) -> Result<Gathered, PlanFault> {
+) -> Result<Gathered, PlanFault>
+    requires ready { L.ready look.old }
+    requires root { IsRootOf L.Hash.digest_of (L.tree look.old) root.now }
+    ensures ready { L.ready look.new }
+    ensures told { L.tree look.new ≡ L.tree look.old }
+    ensures whole { IfOk result (λ all. AreWholeLists all.hashes.items all.heights.items all.faces.items) }
+    ensures cells { IfOk result (λ all. (t : Tree) → L.tree look.old ≡ Some t
+        → AreAllCells L.Hash.digest_of t all.hashes.items all.heights.items all.faces.items) }
+    ensures too_many { (limit : ℕ) → result ≡ Err (PlanFault.TooMany limit) → (limit ≡ MOST_CELLS)
+        × ((t : Tree) → L.tree look.old ≡ Some t
+        → MOST_CELLS < length (distinct_cells L.Hash.digest_of t)) }
+    ensures asked { IfOk result (λ all.
+        L.asked look.new ≡ counted (L.asked look.old) (length all.faces.items)) }
+    ensures hands_on { HandsOn L.goes L.fails (is_plan_failed result) look.old look.new }
+    ensures only_keeper { (fault : LookFault) → result ≡ Err (PlanFault.Look fault)
+        → fault ≡ LookFault.Keeper }
+    ensures faults { RisesOnly (is_plan_failed result) (L.faults look.old) (L.faults look.new) }
+{
     let mut all = Gathered::new(alloc);
     all.know(root)?;
     while all.faces.len() < all.hashes.len() {

@@ -1,11 +1,23 @@
+ghost use Rattle.std.specs.Prelude.{◌≡◌, ◌<◌, ◌≤◌, ℕ, List, length, map, All, Some, Err, IfOk, OnOk};
+ghost use Rattle.cd_base.specs.declared.hash.Hash256.{Hash256};
+ghost use Rattle.cd_cell.specs.Tree.{Tree};
+ghost use Rattle.cd_cell.specs.GoodFace.{IsGoodFace};
+ghost use Rattle.cd_cell.specs.Export.{distinct_cells};
+ghost use Rattle.cd_cell.specs.Listings.{new_cell_of};
+ghost use Rattle.cd_event.specs.Turning.{HandsOn, RisesOnly, counted};
+ghost use Rattle.cd_looks.specs.Answers.{IsRootOf};
+ghost use Rattle.cd_slices.specs.Faults.{is_plan_failed};
+ghost use Rattle.cd_slices.specs.Gathering.{AreWholeLists, AreAllCells};
+ghost use Rattle.cd_slices.specs.Planned.{IsPlanOf, IsPlanOfTree};
+
 use crate::export::{Export, PlannedCell};
 use crate::faults::PlanFault;
 use crate::gather::{Gathered, gather};
 use crate::order::ExportKey;
-use cd_boc_write::{keys_of, lay_out, refs_of, write_bag};
-use cd_cell::{ChildInfo, NewCell};
-use cd_event::LookUp;
-use std::alloc::Global;
+use cd_boc_write::{WriteFault, keys_of, lay_out, refs_of, write_bag};
+use cd_cell::{ChildInfo, MOST_CELLS, NewCell};
+use cd_event::{LookFault, LookUp};
+use std::alloc::{AllocError, Global};
 
 impl Export {
     /// The plan of the export of the look's state, whose root shows `root`. Each distinct cell is looked at once, and
@@ -14,16 +26,46 @@ impl Export {
         alloc: Global,
         look: &mut L,
         root: &ChildInfo,
-    ) -> Result<Export, PlanFault> {
+    ) -> Result<Export, PlanFault>
+        requires ready { L.ready look.old }
+        requires root { IsRootOf L.Hash.digest_of (L.tree look.old) root.now }
+        ensures ready { L.ready look.new }
+        ensures told { L.tree look.new ≡ L.tree look.old }
+
+        // What is planned, and when nothing is.
+        ensures plan { IfOk result (λ export. (t : Tree) → L.tree look.old ≡ Some t
+            → IsPlanOfTree L.Hash.digest_of t export) }
+        ensures few { OnOk result ((t : Tree) → L.tree look.old ≡ Some t
+            → length (distinct_cells L.Hash.digest_of t) ≤ MOST_CELLS) }
+        ensures too_many { (limit : ℕ) → result ≡ Err (PlanFault.TooMany limit) → (limit ≡ MOST_CELLS)
+            × ((t : Tree) → L.tree look.old ≡ Some t
+            → MOST_CELLS < length (distinct_cells L.Hash.digest_of t)) }
+
+        // What lies between two states of the look.
+        ensures asked { IfOk result (λ export.
+            L.asked look.new ≡ counted (L.asked look.old) (length export.layout.ends)) }
+        ensures hands_on { HandsOn L.goes L.fails (is_plan_failed result) look.old look.new }
+        ensures only_keeper { (fault : LookFault) → result ≡ Err (PlanFault.Look fault)
+            → fault ≡ LookFault.Keeper }
+        ensures faults { RisesOnly (is_plan_failed result) (L.faults look.old) (L.faults look.new) }
+    {
         let gathered = gather(alloc, look, root)?;
         let cells = listed(alloc, &gathered)?;
         drop(gathered);
-        planned(alloc, &cells)
+        let export = planned(alloc, &cells)?;
+        Ok(export)
     }
 }
 
 // The cells that were found, in the order of an export.
-fn listed(alloc: Global, all: &Gathered) -> Result<Vec<NewCell>, PlanFault> {
+fn listed(alloc: Global, all: &Gathered) -> Result<Vec<NewCell>, AllocError>
+    requires { AreWholeLists all.now.hashes.items all.now.heights.items all.now.faces.items }
+    ensures count { IfOk result (λ cells. length cells.items ≡ length all.now.faces.items) }
+    ensures good { IfOk result (λ cells. All (λ c. IsGoodFace c.face) cells.items) }
+    ensures tree { IfOk result (λ cells. (H : List ℕ → Hash256) (t : Tree)
+        → AreAllCells H t all.now.hashes.items all.now.heights.items all.now.faces.items
+        → cells.items ≡ map (new_cell_of H) (distinct_cells H t)) }
+{
     let mut keys = Vec::with_capacity(alloc, all.faces.len())?;
     for (place, (hash, height)) in all.hashes.iter().zip(&all.heights).enumerate() {
         keys.push(ExportKey::new(*height, *hash, place as u32))?;
@@ -40,7 +82,12 @@ fn listed(alloc: Global, all: &Gathered) -> Result<Vec<NewCell>, PlanFault> {
 }
 
 // The plan of the export of listed cells.
-fn planned(alloc: Global, cells: &[NewCell]) -> Result<Export, PlanFault> {
+fn planned(alloc: Global, cells: &[NewCell]) -> Result<Export, WriteFault>
+    requires few { length cells.now ≤ MOST_CELLS }
+    requires good { All (λ c. IsGoodFace c.face) cells.now }
+    ensures plan { IfOk result (IsPlanOf cells.now) }
+    ensures count { IfOk result (λ export. length export.layout.ends ≡ length cells.now) }
+{
     let layout = lay_out(alloc, cells)?;
     let text = write_bag(alloc, cells)?;
     let head = text[..layout.header_len as usize].to_vec(alloc)?;
