@@ -1,1 +1,3 @@
 pub mod WindowLaws
+pub mod PlanLaws
+pub mod MetLaws

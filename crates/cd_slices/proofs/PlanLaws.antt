@@ -1,0 +1,103 @@
+-- What the plan of an export says of its text.
+use Rattle.std.proofs.Common.{◌≡◌, ℕ, zero, suc, ◌+◌, ◌-◌, ◌≤◌, ◌<◌, List, [], ◌∷◌, ◌++◌, length, take, map, get_or, Option, Some, refl, sym, ap, ◌∙◌, subst, arith, length-append, append-nil, add-one}
+use Rattle.std.specs.Prelude.{slice_index, slice_index_or, Contains}
+use Rattle.std.proofs.lemmas.List.{length-map, get_or-map, take_more}
+use Rattle.std.proofs.lemmas.List.Elements.{Contains-get_or}
+use Rattle.cd_base.specs.declared.hash.Hash256.{Hash256}
+use Rattle.cd_cell.specs.declared.info.ChildInfo.{ChildInfo}
+use Rattle.cd_cell.specs.declared.new_cell.NewCell.{NewCell}
+use Rattle.cd_cell.specs.FaceView.{FaceView}
+use Rattle.cd_cell.specs.Infos.{no_hash}
+use Rattle.cd_cell.specs.Tree.{Tree, subtrees, rep_of, face_of}
+use Rattle.cd_cell.specs.Unfolding.{no_tree}
+use Rattle.cd_cell.specs.Export.{distinct_cells}
+use Rattle.cd_cell.specs.Listings.{listed_at, new_cell_of, no_cell}
+use Rattle.cd_cell.proofs.ExportOrder.{AreDistinct-distinct_cells}
+use Rattle.cd_boc_write.specs.CellTexts.{Text, cell_text, texts_text, ends_from}
+use Rattle.cd_boc_write.specs.Exports.{width_of, refs_among, text_of_face, text_of_cell, export_texts, export_frame}
+use Rattle.cd_boc_write.specs.Layouts.{data_len, start_of}
+use Rattle.cd_boc_write.specs.LayoutOf.{IsLayoutOf}
+use Rattle.cd_boc_write.proofs.LayingLaws.{size_of-layout}
+use Rattle.cd_boc_write.proofs.TextLaws.{length-ends_from, texts_text-push}
+use Rattle.cd_looks.specs.Answers.{IsFaceAt}
+use Rattle.cd_slices.specs.declared.export.Export.{Export}
+use Rattle.cd_slices.specs.declared.export.PlannedCell.{PlannedCell}
+use Rattle.cd_slices.specs.Windows.{filled}
+use Rattle.cd_slices.specs.Planned.{IsPlanOf}
+use Rattle.cd_slices.proofs.WindowLaws.{filled-whole}
+
+-- a text ends where it and those before it end
+ends_from-at : (size start : ℕ) (ts : List Text) (k : ℕ) → k < length ts → get_or (ends_from size start ts) k 0 ≡ start + length (texts_text size (take (suc k) ts))
+unfolding ends_from
+ends_from-at size start [] k in' = absurd (omega arith)
+ends_from-at size start (t ∷ ts) zero in' = ap (λ (n : ℕ). start + n) (ap length (sym (append-nil (cell_text size t))))
+ends_from-at size start (t ∷ ts) (suc k) in' =
+    let more = length-append (cell_text size t) (texts_text size (take (suc k) ts)) in
+    ends_from-at size (start + length (cell_text size t)) ts k (omega arith) ∙ omega (arith, more)
+
+module _ (cells : List NewCell) (export : Export) (is : IsPlanOf cells export) where
+  abbrev texts : List Text
+  texts = export_texts cells
+
+  abbrev size : ℕ
+  size = export.layout.size
+
+  pub size_is : size ≡ width_of (length cells)
+  size_is = size_of-layout cells export.layout is.layout
+
+  pub ends_are : export.layout.ends ≡ ends_from size 0 texts
+  unfolding export_frame
+  ends_are = sym is.layout.index ∙ ap (λ (s : ℕ). ends_from s 0 texts) (sym size_is)
+
+  pub data_is : (export_frame cells).cell_data ≡ texts_text size texts
+  unfolding export_frame
+  data_is = ap (λ (s : ℕ). texts_text s texts) (sym size_is)
+
+  pub count_is : length export.layout.ends ≡ length cells
+  count_is = ap length ends_are ∙ (length-ends_from size 0 texts ∙ length-map cells (text_of_cell cells))
+
+  pub texts_count : length texts ≡ length cells
+  texts_count = length-map cells (text_of_cell cells)
+
+  pub end_is : (k : ℕ) → k < length export.layout.ends → slice_index export.layout.ends k ≡ length (texts_text size (take (suc k) texts))
+  end_is k in' = ap (λ (es : List ℕ). slice_index es k) ends_are ∙ ends_from-at size 0 texts k (omega (arith, count_is, texts_count))
+
+  pub start_is : (k : ℕ) → k ≤ length export.layout.ends → start_of export.layout.ends k ≡ length (texts_text size (take k texts))
+  start_is zero in' = refl
+  start_is (suc k) in' = end_is k (omega arith)
+
+  pub text_at : (k : ℕ) → k < length export.layout.ends → texts_text size (take (k + 1) texts) ≡ texts_text size (take k texts) ++ cell_text size (text_of_cell cells (listed_at cells k))
+  text_at k in' =
+      let low : k < length texts = omega (arith, count_is, texts_count) in
+      ap (texts_text size) (take_more texts k (text_of_cell cells no_cell) low
+          ∙ ap (λ (t : Text). take k texts ++ t ∷ []) (get_or-map (text_of_cell cells) cells k no_cell (text_of_cell cells no_cell) (omega (arith, count_is))))
+      ∙ texts_text-push size (take k texts) (text_of_cell cells (listed_at cells k))
+
+  -- a cell's text is as long as it was planned
+  pub len_is : (k : ℕ) → k < length export.layout.ends → slice_index export.layout.ends k - start_of export.layout.ends k ≡ length (cell_text size (text_of_cell cells (listed_at cells k)))
+  len_is k in' =
+      let whole = ap length (text_at k in') ∙ length-append (texts_text size (take k texts)) (cell_text size (text_of_cell cells (listed_at cells k))) in
+      let end = end_is k in' ∙ ap (λ (n : ℕ). length (texts_text size (take n texts))) (sym (add-one k)) in
+      omega (arith, whole, end, start_is k (omega arith))
+
+  pub planned_text_is : (k : ℕ) (d : PlannedCell) (face : FaceView) → k < length export.layout.ends → face ≡ (listed_at cells k).face
+      → filled (slice_index export.layout.ends k - start_of export.layout.ends k) (cell_text size (text_of_face face (take (length face.kids) (slice_index_or export.cells.items k d).refs))) ≡ cell_text size (text_of_cell cells (listed_at cells k))
+  planned_text_is k d face in' same =
+      let refs = is.refs k d (omega (arith, count_is)) in
+      let text = (λ i. cell_text size (text_of_face (same i) (take (length (same i).kids) (slice_index_or export.cells.items k d).refs))) ∙ ap (λ (rs : List ℕ). cell_text size (text_of_face (listed_at cells k).face rs)) refs in
+      (λ i. filled (len_is k in' i) (text i)) ∙ filled-whole (cell_text size (text_of_cell cells (listed_at cells k)))
+
+  -- what a look gives for a cell's hash
+  pub face_is : (H : List ℕ → Hash256) (told : Option Tree) (t : Tree) (k : ℕ) (d : PlannedCell) (face : FaceView)
+      → told ≡ Some t → cells ≡ map (new_cell_of H) (distinct_cells H t) → k < length export.cells.items → k < length export.layout.ends
+      → IsFaceAt H told (slice_index_or export.cells.items k d).hash face → face ≡ (listed_at cells k).face
+  face_is H told t k d face told_is cells_are there in' is_face =
+      let trees = distinct_cells H t in
+      let low : k < length trees = omega (arith, count_is, ap length cells_are, length-map trees (new_cell_of H)) in
+      let s = get_or trees k no_tree in
+      let cell : listed_at cells k ≡ new_cell_of H s = ap (λ (cs : List NewCell). listed_at cs k) cells_are ∙ get_or-map (new_cell_of H) trees k no_tree no_cell low in
+      let inside = (AreDistinct-distinct_cells H t).within s (Contains-get_or trees k no_tree low) in
+      let hash : rep_of H s ≡ (slice_index_or export.cells.items k d).hash = sym (ap (λ (c : NewCell). c.hash) cell)
+          ∙ (sym (get_or-map (λ (c : NewCell). c.hash) cells k no_cell no_hash (omega (arith, count_is))) ∙ (ap (λ (hs : List Hash256). get_or hs k no_hash) (sym is.hashes)
+          ∙ get_or-map (λ (c : PlannedCell). c.hash) export.cells.items k d no_hash there)) in
+      is_face t s told_is inside hash ∙ ap (λ (c : NewCell). c.face) (sym cell)
