@@ -1,5 +1,5 @@
 -- What the plan of an export says of its text.
-use Rattle.std.proofs.Common.{◌≡◌, ℕ, zero, suc, ◌+◌, ◌-◌, ◌≤◌, ◌<◌, List, [], ◌∷◌, ◌++◌, length, take, map, get_or, Option, Some, refl, sym, ap, ◌∙◌, subst, arith, length-append, append-nil, add-one}
+use Rattle.std.proofs.Common.{◌≡◌, ℕ, zero, suc, ◌+◌, ◌-◌, ◌≤◌, ◌<◌, List, [], ◌∷◌, ◌++◌, length, take, map, get_or, Option, Some, refl, sym, ap, ◌∙◌, subst, arith, length-append, append-nil, add-one, zero-add}
 use Rattle.std.specs.Prelude.{slice_index, slice_index_or, Contains}
 use Rattle.std.proofs.lemmas.List.{length-map, get_or-map, take_more}
 use Rattle.std.proofs.lemmas.List.Elements.{Contains-get_or}
@@ -60,7 +60,7 @@ module _ (cells : List NewCell) (export : Export) (is : IsPlanOf cells export) w
   texts_count = length-map cells (text_of_cell cells)
 
   pub end_is : (k : ℕ) → k < length export.layout.ends → slice_index export.layout.ends k ≡ length (texts_text size (take (suc k) texts))
-  end_is k in' = ap (λ (es : List ℕ). slice_index es k) ends_are ∙ ends_from-at size 0 texts k (omega (arith, count_is, texts_count))
+  end_is k in' = ap (λ (es : List ℕ). slice_index es k) ends_are ∙ (ends_from-at size 0 texts k (omega (arith, count_is, texts_count)) ∙ zero-add (length (texts_text size (take (suc k) texts))))
 
   pub start_is : (k : ℕ) → k ≤ length export.layout.ends → start_of export.layout.ends k ≡ length (texts_text size (take k texts))
   start_is zero in' = refl

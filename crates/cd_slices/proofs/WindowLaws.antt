@@ -65,7 +65,7 @@ part_is text offset max until inside is =
 -- ---- texts of a planned length
 
 pub length-filled : (len : ℕ) (xs : List ℕ) → length (filled len xs) ≡ len
-length-filled len xs = length-take len (xs ++ replicate (len - length xs) 0) ∙ omega (arith, length-append xs (replicate (len - length xs) 0), length-replicate (len - length xs) 0)
+length-filled len xs = length-take len (xs ++ replicate (len - length xs) 0) ∙ omega (arith, length-append xs (replicate (len - length xs) 0), length-replicate {A = ℕ} (len - length xs) 0)
 
 pub filled-whole : (xs : List ℕ) → filled (length xs) xs ≡ xs
 filled-whole xs = take_at xs (replicate (length xs - length xs) 0) (length xs) refl

@@ -1,7 +1,8 @@
 -- Trusted: a look's fault as a plan's and as a slice's.
-use Rattle.std.specs.Prelude.{◌≡◌, Bool, false, true, Result, Ok, Err}
+use Rattle.std.specs.Prelude.{◌≡◌, ℕ, nat_lt, if◌then◌else◌, Option, Some, None, Bool, false, true, Result, Ok, Err}
 use Rattle.cd_event.specs.declared.faults.LookFault.{LookFault}
 use Rattle.cd_event.specs.declared.faults.LookFault.TheVariants as look
+use Rattle.cd_slices.specs.declared.export.TheConstants.{MOST_SLICE}
 use Rattle.cd_slices.specs.declared.faults.PlanFault.{PlanFault}
 use Rattle.cd_slices.specs.declared.faults.PlanFault.TheVariants as plan
 use Rattle.cd_slices.specs.declared.faults.SliceFault.{SliceFault}
@@ -34,3 +35,7 @@ IsLookFault (Err (slice.Look fault)) = fault ≡ look.Keeper
 IsLookFault (Err slice.Memory) = Unit {0}
 IsLookFault (Err (slice.PastEnd offset len)) = ⊥
 IsLookFault (Err (slice.SliceBig max)) = ⊥
+
+-- the refusal of a slice, if there is one: the offset lies behind the text, or else the slice may not be so big
+abbrev pub slice_refusal : ℕ → ℕ → ℕ → Option SliceFault
+slice_refusal len offset max = if nat_lt len offset then Some (slice.PastEnd offset len) else (if nat_lt MOST_SLICE max then Some (slice.SliceBig max) else None)

@@ -1,4 +1,4 @@
-ghost use Rattle.std.specs.Prelude.{◌≡◌, ◌≢◌, ◌↔◌, ◌+◌, ◌-◌, ◌^◌, ◌<◌, ◌≤◌, ◌++◌, ℕ, List, Ok, Err, Some, length, map, min, All, IfOk, OnOk, slice_index};
+ghost use Rattle.std.specs.Prelude.{◌≡◌, ◌+◌, ◌-◌, ◌^◌, ◌<◌, ◌≤◌, ◌++◌, ℕ, List, Ok, Err, Some, None, length, map, min, All, IfOk, IfSome, OnOk, slice_index};
 ghost use Rattle.cd_base.specs.declared.hash.Hash256.{Hash256};
 ghost use Rattle.cd_cell.specs.Tree.{Tree};
 ghost use Rattle.cd_cell.specs.declared.new_cell.NewCell.{NewCell};
@@ -9,7 +9,7 @@ ghost use Rattle.cd_boc_write.specs.Exports.{export_text, export_frame, text_of_
 ghost use Rattle.cd_boc_write.specs.Layouts.{data_len, start_of};
 ghost use Rattle.cd_event.specs.Turning.{AskedAfter, HandsOn, RisesOnly};
 ghost use Rattle.cd_looks.specs.Answers.{AskedAtMost};
-ghost use Rattle.cd_slices.specs.Faults.{IsLookFault, is_slice_failed};
+ghost use Rattle.cd_slices.specs.Faults.{IsLookFault, is_slice_failed, slice_refusal};
 ghost use Rattle.cd_slices.specs.Windows.{part_of, window, window_len};
 
 use crate::cell_text::planned_text;
@@ -17,7 +17,7 @@ use crate::faults::SliceFault;
 use crate::windows::put_window;
 use cd_base::Hash256;
 use cd_boc_write::Layout;
-use cd_event::{LookFault, LookUp};
+use cd_event::LookUp;
 use cd_looks::look_face;
 use std::alloc::Global;
 
@@ -52,6 +52,7 @@ impl Export {
     pub fn len(&self) -> u64
         ensures text { (cells : List NewCell) → IsPlanOf cells self.now → result ≡ length (export_text cells) }
         ensures tree { (H : List ℕ → Hash256) (t : Tree) → IsPlanOfTree H t self.now → result ≡ length (bag_of H t) }
+        ensures value { result ≡ text_len self.now }
         ensures low { result < 2 ^ 34 }
     {
         self.layout.total()
@@ -75,20 +76,13 @@ impl Export {
             → IsPlanOfTree L.Hash.digest_of t self.now
             → part.items ≡ part_of (bag_of L.Hash.digest_of t) offset max) }
         ensures bytes { IfOk result (λ part. length part.items ≡ min max (text_len self.now - offset)) }
-        ensures past_end { (result ≡ Err (SliceFault.PastEnd offset (text_len self.now)))
-            ↔ (text_len self.now < offset) }
-        ensures only_past_end { (at len : ℕ) → result ≡ Err (SliceFault.PastEnd at len)
-            → (at ≡ offset) × (len ≡ text_len self.now) }
-        ensures big { (result ≡ Err (SliceFault.SliceBig max))
-            ↔ ((offset ≤ text_len self.now) × (MOST_SLICE < max)) }
-        ensures only_big { (most : ℕ) → result ≡ Err (SliceFault.SliceBig most) → most ≡ max }
+        ensures refused { IfSome (slice_refusal (text_len self.now) offset max) (λ fault. result ≡ Err fault) }
+        ensures only_refused { slice_refusal (text_len self.now) offset max ≡ None → IsLookFault result }
 
         // What lies between two states of the look.
         ensures asked { AskedAtMost (cells_met self.now.layout offset (offset + max))
             (L.asked look.old) (L.asked look.new) }
         ensures hands_on { HandsOn L.goes L.fails (is_slice_failed result) look.old look.new }
-        ensures only_keeper { (fault : LookFault) → result ≡ Err (SliceFault.Look fault)
-            → fault ≡ LookFault.Keeper }
         ensures faults { RisesOnly (is_slice_failed result) (L.faults look.old) (L.faults look.new) }
     {
         let len = self.len();
@@ -98,11 +92,37 @@ impl Export {
         if max > MOST_SLICE {
             return Err(SliceFault::SliceBig { max });
         }
-        let until = len.min(offset + u64::from(max));
+        self.cut(alloc, look, offset, len.min(offset + u64::from(max)))
+    }
+
+    // The part of the text between two offsets.
+    fn cut<L: LookUp>(
+        &self,
+        alloc: Global,
+        look: &mut L,
+        offset: u64,
+        until: u64,
+    ) -> Result<Vec<u8>, SliceFault>
+        requires ready { L.ready look.old }
+        requires ordered { offset ≤ until }
+        requires within { until ≤ text_len self.now }
+        ensures ready { L.ready look.new }
+        ensures told { L.tree look.new ≡ L.tree look.old }
+        ensures part { IfOk result (λ part. (t : Tree) → L.tree look.old ≡ Some t
+            → IsPlanOfTree L.Hash.digest_of t self.now
+            → part.items ≡ window 0 offset until (bag_of L.Hash.digest_of t)) }
+        ensures bytes { IfOk result (λ part. length part.items ≡ until - offset) }
+        ensures asked { AskedAtMost (cells_met self.now.layout offset until)
+            (L.asked look.old) (L.asked look.new) }
+        ensures hands_on { HandsOn L.goes L.fails (is_slice_failed result) look.old look.new }
+        ensures no_refusal { IsLookFault result }
+        ensures faults { RisesOnly (is_slice_failed result) (L.faults look.old) (L.faults look.new) }
+    {
         let mut part = Vec::with_capacity(alloc, (until - offset) as usize)?;
         put_window(&mut part, &self.head, 0, offset, until)?;
         self.put_cells(alloc, look, &mut part, offset, until)?;
-        put_window(&mut part, &self.crc.to_le_bytes(), len - 4, offset, until)?;
+        let checksum_at = self.len() - 4;
+        put_window(&mut part, &self.crc.to_le_bytes(), checksum_at, offset, until)?;
         Ok(part)
     }
 
