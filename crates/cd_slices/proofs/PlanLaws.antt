@@ -1,7 +1,9 @@
 -- What the plan of an export says of its text.
-use Rattle.std.proofs.Common.{◌≡◌, ℕ, zero, suc, ◌+◌, ◌-◌, ◌≤◌, ◌<◌, List, [], ◌∷◌, ◌++◌, length, take, map, get_or, Option, Some, refl, sym, ap, ◌∙◌, subst, arith, length-append, append-nil, add-one, zero-add}
+use Rattle.std.proofs.Common.{◌≡◌, ℕ, zero, suc, ◌+◌, ◌-◌, ◌≤◌, ◌<◌, List, [], ◌∷◌, ◌++◌, length, take, map, get_or, Option, Some, refl, sym, ap, ◌∙◌, subst, arith, length-append, append-nil, append_assoc, add-one, zero-add, drop, true, inl, inr}
 use Rattle.std.specs.Prelude.{slice_index, slice_index_or, Contains}
-use Rattle.std.proofs.lemmas.List.{length-map, get_or-map, take_more}
+use Rattle.std.proofs.lemmas.Bool.{cases_lt}
+use Rattle.std.proofs.lemmas.Bool.Decides.{nat_tests}
+use Rattle.std.proofs.lemmas.List.{length-map, get_or-map, take_more, take_all, take-append-drop}
 use Rattle.std.proofs.lemmas.List.Elements.{Contains-get_or}
 use Rattle.cd_base.specs.declared.hash.Hash256.{Hash256}
 use Rattle.cd_cell.specs.declared.info.ChildInfo.{ChildInfo}
@@ -13,18 +15,19 @@ use Rattle.cd_cell.specs.Unfolding.{no_tree}
 use Rattle.cd_cell.specs.Export.{distinct_cells}
 use Rattle.cd_cell.specs.Listings.{listed_at, new_cell_of, no_cell}
 use Rattle.cd_cell.proofs.ExportOrder.{AreDistinct-distinct_cells}
+use Rattle.cd_boc_write.specs.declared.layout.Layout.{Layout}
 use Rattle.cd_boc_write.specs.CellTexts.{Text, cell_text, texts_text, ends_from}
 use Rattle.cd_boc_write.specs.Exports.{width_of, refs_among, text_of_face, text_of_cell, export_texts, export_frame}
-use Rattle.cd_boc_write.specs.Layouts.{data_len, start_of}
+use Rattle.cd_boc_write.specs.Layouts.{data_len, start_of, IsLayout}
 use Rattle.cd_boc_write.specs.LayoutOf.{IsLayoutOf}
 use Rattle.cd_boc_write.proofs.LayingLaws.{size_of-layout}
-use Rattle.cd_boc_write.proofs.TextLaws.{length-ends_from, texts_text-push}
+use Rattle.cd_boc_write.proofs.TextLaws.{length-ends_from, texts_text-push, texts_text-append}
 use Rattle.cd_looks.specs.Answers.{IsFaceAt}
 use Rattle.cd_slices.specs.declared.export.Export.{Export}
 use Rattle.cd_slices.specs.declared.export.PlannedCell.{PlannedCell}
-use Rattle.cd_slices.specs.Windows.{filled}
-use Rattle.cd_slices.specs.Planned.{IsPlanOf}
-use Rattle.cd_slices.proofs.WindowLaws.{filled-whole}
+use Rattle.cd_slices.specs.Windows.{filled, window}
+use Rattle.cd_slices.specs.Planned.{IsPlanOf, is_met}
+use Rattle.cd_slices.proofs.WindowLaws.{filled-whole, window-before, window-behind, window-append}
 
 -- a text ends where it and those before it end
 ends_from-at : (size start : ℕ) (ts : List Text) (k : ℕ) → k < length ts → get_or (ends_from size start ts) k 0 ≡ start + length (texts_text size (take (suc k) ts))
@@ -101,3 +104,73 @@ module _ (cells : List NewCell) (export : Export) (is : IsPlanOf cells export) w
           ∙ (sym (get_or-map (λ (c : NewCell). c.hash) cells k no_cell no_hash (omega (arith, count_is))) ∙ (ap (λ (hs : List Hash256). get_or hs k no_hash) (sym is.hashes)
           ∙ get_or-map (λ (c : PlannedCell). c.hash) export.cells.items k d no_hash there)) in
       is_face t s told_is inside hash ∙ ap (λ (c : NewCell). c.face) (sym cell)
+
+  abbrev front : ℕ → List ℕ
+  front k = texts_text size (take k texts)
+
+  abbrev its_text : ℕ → List ℕ
+  its_text k = cell_text size (text_of_cell cells (listed_at cells k))
+
+  -- before the first cell that is met there is nothing
+  pub front-first : (head from until k : ℕ) (old : List ℕ) → k ≤ length export.layout.ends → start_of export.layout.ends k ≤ from - head → old ≡ old ++ window head from until (front k)
+  front-first head from until k old in' early =
+      let start = start_is k in' in
+      sym (ap (λ (l : List ℕ). old ++ l) (window-before head from until (front k) (omega (arith, start, early))) ∙ append-nil old)
+
+  -- one cell more
+  pub front-next : (head from until k start : ℕ) (old now next text : List ℕ) → k < length export.layout.ends → start ≡ head + start_of export.layout.ends k
+      → now ≡ old ++ window head from until (front k) → text ≡ its_text k → next ≡ now ++ window start from until text → next ≡ old ++ window head from until (front (k + 1))
+  front-next head from until k start old now next text in' start_at now_is text_is next_is =
+      let begin : start ≡ head + length (front k) = start_at ∙ ap (λ (n : ℕ). head + n) (start_is k (omega arith)) in
+      next_is ∙ ((λ i. now_is i ++ window (begin i) from until (text_is i))
+      ∙ (append_assoc old (window head from until (front k)) (window (head + length (front k)) from until (its_text k))
+      ∙ ap (λ (l : List ℕ). old ++ l) (sym (window-append head from until (front k) (its_text k)) ∙ ap (window head from until) (sym (text_at k in')))))
+
+  -- behind the last cell that is met there is nothing
+  pub front-last : (head from until k : ℕ) (old now : List ℕ) → k ≤ length export.layout.ends → until ≤ head + start_of export.layout.ends k
+      → now ≡ old ++ window head from until (front k) → now ≡ old ++ window head from until (export_frame cells).cell_data
+  front-last head from until k old now in' late now_is =
+      let rest = texts_text size (drop k texts) in
+      let whole : (export_frame cells).cell_data ≡ front k ++ rest = data_is ∙ (ap (texts_text size) (sym (take-append-drop k texts)) ∙ texts_text-append size (take k texts) (drop k texts)) in
+      let none = window-behind (head + length (front k)) from until rest (omega (arith, start_is k in', late)) in
+      now_is ∙ ap (λ (l : List ℕ). old ++ l) (sym (ap (window head from until) whole ∙ (window-append head from until (front k) rest ∙ (ap (λ (l : List ℕ). window head from until (front k) ++ l) none ∙ append-nil (window head from until (front k))))))
+
+  -- nor behind the last of all
+  pub front-all : (head from until k : ℕ) (old now : List ℕ) → length export.layout.ends ≤ k
+      → now ≡ old ++ window head from until (front k) → now ≡ old ++ window head from until (export_frame cells).cell_data
+  front-all head from until k old now past now_is =
+      let whole : take k texts ≡ texts = take_all k texts (omega (arith, count_is, texts_count)) in
+      now_is ∙ ap (λ (ts : List ℕ). old ++ window head from until ts) (ap (texts_text size) whole ∙ sym data_is)
+
+-- ---- the ends of cells alone
+
+pub start-next : (ends : List ℕ) (k : ℕ) → start_of ends (k + 1) ≡ slice_index ends k
+start-next ends k = ap (λ (n : ℕ). start_of ends n) (add-one k)
+
+pub start-below : (size off_bytes head : ℕ) (ends : List ℕ) → IsLayout size off_bytes head ends → (k : ℕ) → k < length ends → start_of ends k ≤ slice_index ends k
+start-below size off_bytes head ends laid zero in' = omega arith
+start-below size off_bytes head ends laid (suc k) in' = let up = laid.rising k (suc k) (omega arith) in' in omega (arith, up)
+
+pub ends-rise : (size off_bytes head : ℕ) (ends : List ℕ) → IsLayout size off_bytes head ends → (j k : ℕ) → j ≤ k → k < length ends → slice_index ends j ≤ slice_index ends k
+ends-rise size off_bytes head ends laid j k up in' = elim (cases_lt j k) [
+  | inl below ↦ let rise = laid.rising j k below in' in omega (arith, rise)
+  | inr behind ↦ let same : j ≡ k = omega arith in subst (λ (m : ℕ). slice_index ends j ≤ slice_index ends m) same (omega arith)
+]
+
+pub start-last : (ends : List ℕ) (k : ℕ) → k ≡ length ends → 0 < k → start_of ends k ≡ data_len ends
+start-last ends zero all some = absurd (omega arith)
+start-last ends (suc k) all some = let last : k ≡ length ends - 1 = omega arith in ap (λ (n : ℕ). slice_index ends n) last
+
+pub start-within : (size off_bytes head : ℕ) (ends : List ℕ) → IsLayout size off_bytes head ends → (k : ℕ) → k < length ends → start_of ends k ≤ data_len ends
+start-within size off_bytes head ends laid k in' =
+    let below = start-below size off_bytes head ends laid k in' in
+    let rise = ends-rise size off_bytes head ends laid k (length ends - 1) (omega arith) (omega arith) in
+    omega (arith, below, rise)
+
+-- whether the text of a cell between the first met and the last has a byte there
+pub met_is : (layout : Layout) (from until first k : ℕ) → first ≤ k → k < length layout.ends → from - layout.header_len < slice_index layout.ends first → layout.header_len + start_of layout.ends k < until
+    → is_met layout from until k ≡ true
+met_is layout from until first k up in' early late =
+    let rise = ends-rise layout.size layout.off_bytes layout.header_len layout.ends layout.laid_out first k up in' in
+    let end : from < layout.header_len + slice_index layout.ends k = omega (arith, rise, early) in
+    grind (arith, nat_tests)

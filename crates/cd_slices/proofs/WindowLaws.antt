@@ -31,7 +31,7 @@ window-append start from until xs ys =
     ∙ (ap (λ (k : ℕ). drop k (take (b - n) ys)) first ∙ ap (λ (k : ℕ). drop (from - (start + n)) (take k ys)) last)))
 
 -- nothing of a text that ends before the first offset, or begins behind the last
-pub window-before : (start from until : ℕ) (xs : List ℕ) → start + length xs ≤ from → window start from until xs ≡ []
+pub window-before : (start from until : ℕ) (xs : List ℕ) → length xs ≤ from - start → window start from until xs ≡ []
 window-before start from until xs ends = drop_all (from - start) (take (until - start) xs) (omega (arith, length-take (until - start) xs))
 
 pub window-behind : (start from until : ℕ) (xs : List ℕ) → until ≤ start → window start from until xs ≡ []

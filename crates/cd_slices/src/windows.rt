@@ -14,7 +14,9 @@ pub fn put_window(
     ensures { OnOk result (out.new.items ≡ out.old.items ++ window start from until text.now) }
 {
     let len = text.len() as u64;
-    let end = until.saturating_sub(start).min(len) as usize;
-    let begin = from.saturating_sub(start).min(end as u64) as usize;
-    out.extend_from_slice(&text[begin..end])
+    let last = until.saturating_sub(start);
+    let end = last.min(len);
+    let first = from.saturating_sub(start);
+    let begin = first.min(end);
+    out.extend_from_slice(&text[begin as usize..end as usize])
 }

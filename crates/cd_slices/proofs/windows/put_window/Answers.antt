@@ -1,4 +1,4 @@
-use Rattle.std.proofs.Common.{◌≡◌, ap, ◌∙◌, ◌++◌, List, ℕ, Bool, Result, Ok, Err, sym, subst, arith}
+use Rattle.std.proofs.Common.{◌≡◌, ap, ◌∙◌, ◌-◌, ◌++◌, List, ℕ, Bool, Result, Ok, Err, sym, subst, arith}
 use Rattle.std.specs.Prelude.{OnOk, if◌then◌else◌}
 use Rattle.std.specs.Result.{is_ok}
 use Rattle.cd_slices.proofs.WindowLaws.{cut_is}
@@ -11,4 +11,4 @@ at_ok (Err fault) x y z w is same = tt
 
 pub returns : goal.returns
 returns c = at_ok c.extend_from_slice.result _ _ _ _ c.extend_from_slice.ensures.items
-    (ap (λ (l : List ℕ). c.args.out.now.items ++ l) (cut_is c.args.text.now c.args.from c.args.until c.min-begin.result c.min-end.result (omega arith) (omega arith)))
+    (ap (λ (l : List ℕ). c.args.out.now.items ++ l) (cut_is c.args.text.now (c.args.from - c.args.start) (c.args.until - c.args.start) c.min-begin.result c.min-end.result (omega (arith, c.saturating_sub-last.ensures, c.min-end.ensures)) (omega (arith, c.saturating_sub-first.ensures, c.min-begin.ensures))))
