@@ -17,7 +17,11 @@ use Rattle.cd_cell.specs.Listings.{listed_at, new_cell_of, no_cell}
 use Rattle.cd_cell.proofs.ExportOrder.{AreDistinct-distinct_cells}
 use Rattle.cd_boc_write.specs.declared.layout.Layout.{Layout}
 use Rattle.cd_boc_write.specs.CellTexts.{Text, cell_text, texts_text, ends_from}
-use Rattle.cd_boc_write.specs.Exports.{width_of, refs_among, text_of_face, text_of_cell, export_texts, export_frame}
+use Rattle.cd_base.specs.Checksum.{crc32c}
+use Rattle.cd_base.specs.Numbers.{little}
+use Rattle.cd_boc_write.specs.Frames.{body_text}
+use Rattle.cd_boc_write.proofs.HeaderLaws.{export_text-parts, body_text-export, data_len-export}
+use Rattle.cd_boc_write.specs.Exports.{width_of, refs_among, text_of_face, text_of_cell, export_texts, export_frame, export_text, header_of}
 use Rattle.cd_boc_write.specs.Layouts.{data_len, start_of, IsLayout}
 use Rattle.cd_boc_write.specs.LayoutOf.{IsLayoutOf}
 use Rattle.cd_boc_write.proofs.LayingLaws.{size_of-layout}
@@ -141,6 +145,22 @@ module _ (cells : List NewCell) (export : Export) (is : IsPlanOf cells export) w
   front-all head from until k old now past now_is =
       let whole : take k texts ≡ texts = take_all k texts (omega (arith, count_is, texts_count)) in
       now_is ∙ ap (λ (ts : List ℕ). old ++ window head from until ts) (ap (texts_text size) whole ∙ sym data_is)
+
+  -- the whole text is what stands before the cells, these, and the checksum
+  pub parts-join : (from until : ℕ) (end : List ℕ) → end ≡ little 4 export.crc
+      → (window 0 from until export.head.items ++ window export.layout.header_len from until (export_frame cells).cell_data) ++ window (export.layout.header_len + data_len export.layout.ends) from until end ≡ window 0 from until (export_text cells)
+  parts-join from until end end_is =
+      let head = header_of (export_frame cells) in
+      let cells_text = (export_frame cells).cell_data in
+      let crc = little 4 (crc32c (body_text (export_frame cells))) in
+      let whole : export_text cells ≡ (head ++ cells_text) ++ crc = export_text-parts cells ∙ ap (λ (l : List ℕ). l ++ crc) (body_text-export cells) in
+      let head_len : length head ≡ export.layout.header_len = is.layout.header in
+      let all_data : data_len export.layout.ends ≡ length cells_text = ap data_len (sym is.layout.index) ∙ data_len-export cells in
+      let body_len : export.layout.header_len + data_len export.layout.ends ≡ 0 + length (head ++ cells_text) = omega (arith, head_len, all_data, length-append head cells_text) in
+      let first : export.layout.header_len ≡ 0 + length head = omega (arith, head_len) in
+      (λ i. (window 0 from until (is.head i) ++ window (first i) from until cells_text) ++ window (body_len i) from until ((end_is ∙ ap (little 4) is.crc) i))
+      ∙ (ap (λ (l : List ℕ). l ++ window (0 + length (head ++ cells_text)) from until crc) (sym (window-append 0 from until head cells_text))
+      ∙ (sym (window-append 0 from until (head ++ cells_text) crc) ∙ ap (window 0 from until) (sym whole)))
 
 -- ---- the ends of cells alone
 

@@ -1,4 +1,4 @@
-use Rattle.std.proofs.Common.{◌≡◌, ◌+◌, ◌-◌, ◌≤◌, ◌<◌, ◌++◌, ℕ, List, Ok, ap, ◌∙◌, sym, subst, arith, length, length-append, add_assoc, refl, true}
+use Rattle.std.proofs.Common.{◌≡◌, ◌+◌, ◌-◌, ◌≤◌, ◌<◌, ◌++◌, ℕ, List, Ok, ap, ◌∙◌, sym, subst, arith, length, length-append, append-nil, add_assoc, refl, true}
 use Rattle.std.specs.Prelude.{slice_index, count_by}
 use Rattle.std.specs.List.{range_with_len}
 use Rattle.cd_boc_write.specs.declared.layout.Layout.{Layout}
@@ -7,7 +7,9 @@ use Rattle.cd_boc_write.specs.Layouts.{start_of, data_len}
 use Rattle.cd_looks.proofs.GoingLaws.{asked_nothing, asked_at_most, asked_more}
 use Rattle.cd_slices.specs.Planned.{is_met, cells_met}
 use Rattle.cd_slices.specs.Windows.{window, window_len}
-use Rattle.cd_slices.proofs.WindowLaws.{length-window, window_len-append}
+use Rattle.cd_boc_write.specs.Exports.{export_frame}
+use Rattle.cd_boc_write.proofs.HeaderLaws.{data_len-export}
+use Rattle.cd_slices.proofs.WindowLaws.{length-window, window_len-append, window-before}
 use Rattle.cd_slices.proofs.PlanLaws.{front-first, front-next, front-last, front-all, start-next, start-below, start-last, start-within, met_is}
 use Rattle.cd_slices.proofs.MetLaws.{met_more, met_within}
 use Rattle.cd_slices.proofs.export.Export.put_cells.Goals as goal
@@ -91,3 +93,36 @@ returns-then-start-until-clause-asked g c = asked_of_all c.args.self.now.layout 
 pub returns-after-loop-number-clause-part : goal.returns-after-loop-number-clause-part
 returns-after-loop-number-clause-part g c = λ t told cells same plan.
     front-all cells c.args.self.now plan c.args.self.now.layout.header_len c.args.from c.args.until c.loop-number.number c.args.part.now.items c.loop-number.part.items (omega (arith, c.args.self.now.counted)) (c.loop-number.invariant.part t told cells same plan)
+
+pub returns-after-loop-number-clause-bytes : goal.returns-after-loop-number-clause-bytes
+returns-after-loop-number-clause-bytes g c =
+    let layout = c.args.self.now.layout in
+    let last = start-last layout.ends c.loop-number.number (omega (arith, c.args.self.now.counted, c.cell_at-number.ensures.cell)) (omega (arith, c.args.self.now.counted, c.cell_at-number.ensures.cell)) in
+    c.loop-number.invariant.bytes ∙ ap (λ (n : ℕ). length c.args.part.now.items + window_len layout.header_len c.args.from c.args.until n) last
+
+-- where the part begins behind the cells
+pub returns-then-begin-data_len-clause-part : goal.returns-then-begin-data_len-clause-part
+returns-then-begin-data_len-clause-part g c = λ t told cells same plan.
+    let whole = data_len-export cells in
+    let index = ap data_len plan.layout.index in
+    let none = window-before c.args.self.now.layout.header_len c.args.from c.args.until (export_frame cells).cell_data (omega (arith, whole, index, c.saturating_sub-begin.ensures, c.data_len.ensures, c.if-begin-data_len.true)) in
+    sym (ap (λ (l : List ℕ). c.args.part.now.items ++ l) none ∙ append-nil c.args.part.now.items)
+
+-- at a fault
+pub returns-in_err-text-clause-asked : goal.returns-in_err-text-clause-asked
+returns-in_err-text-clause-asked g c =
+    let layout = c.args.self.now.layout in
+    let there : c.loop-number.number < length layout.ends = omega (arith, c.args.self.now.counted) in
+    asked_of_all layout c.args.from c.args.until (c.loop-number.number + 1) _ _ (omega arith)
+    (asked_for_one layout c.args.from c.args.until c.loop-number.number _ _ _
+    (met layout c.args.from c.args.until c.saturating_sub-begin.result c.cell_at-number.result c.loop-number.number c.start_of.result c.saturating_sub-begin.ensures c.cell_at-number.ensures.before (omega arith) there c.start_of.ensures c.if-start-until.false)
+    c.loop-number.invariant.asked c.in_err-text.ensures.asked)
+
+pub returns-in_err-put_window-clause-asked : goal.returns-in_err-put_window-clause-asked
+returns-in_err-put_window-clause-asked g c =
+    let layout = c.args.self.now.layout in
+    let there : c.loop-number.number < length layout.ends = omega (arith, c.args.self.now.counted) in
+    asked_of_all layout c.args.from c.args.until (c.loop-number.number + 1) _ _ (omega arith)
+    (asked_for_one layout c.args.from c.args.until c.loop-number.number _ _ _
+    (met layout c.args.from c.args.until c.saturating_sub-begin.result c.cell_at-number.result c.loop-number.number c.start_of.result c.saturating_sub-begin.ensures c.cell_at-number.ensures.before (omega arith) there c.start_of.ensures c.if-start-until.false)
+    c.loop-number.invariant.asked (asked_at_most {A = Unit {0}} {E = Unit {0}} (Ok tt) 1 _ _ c.in_ok-text.ensures.asked))
