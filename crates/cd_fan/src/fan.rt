@@ -2,13 +2,14 @@ ghost use Rattle.std.specs.Prelude.{◌≡◌, ◌≤◌, ℕ, [], length, count
 ghost use Rattle.cd_cell.specs.Tree.{Tree};
 ghost use Rattle.cd_boc_write.specs.Exports.{bag_of};
 ghost use Rattle.cd_event.specs.Turning.{HandsOn, RisesOnly};
+ghost use Rattle.cd_fan.specs.Fans.{HaveGot, HaveGotPart, HaveGotBytes, AreEnds, is_fan_failed};
 ghost use Rattle.cd_slices.specs.Planned.{IsPlanOfTree, text_len};
 
 use crate::client::SliceClient;
 use crate::fan_fault::FanFault;
 use cd_event::{LookFault, LookUp};
 use cd_slices::{Export, MOST_SLICE, SliceFault};
-use std::alloc::Global;
+use std::alloc::{AllocError, AllocFailed, Global};
 
 /// How a client ended.
 #[derive(Clone, Copy, Debug, PartialEq, Eq)]
@@ -19,10 +20,11 @@ pub enum ClientEnd {
     Failed { bytes: u64 },
 }
 
-/// A client that anything may be behind.
-pub type BoxedClient = Box<dyn SliceClient + Send>;
 
 impl From<SliceFault> for FanFault {
+    ghost use Rattle.std.specs.Prelude.{◌≡◌};
+    ghost use Rattle.cd_fan.specs.Faults.{fan_fault};
+
     ghost from_gives = { λ fault given. given ≡ fan_fault fault };
 
     // A slice at an offset of the text, and of no more than a slice may have, is refused by a look or by memory alone.
@@ -31,6 +33,28 @@ impl From<SliceFault> for FanFault {
             SliceFault::Look(fault) => FanFault::Look(fault),
             _ => FanFault::Memory,
         }
+    }
+}
+
+impl From<AllocError> for FanFault {
+    ghost use Rattle.std.specs.Prelude.{◌≡◌};
+    ghost use Rattle.cd_fan.specs.declared.fan_fault.FanFault.{FanFault};
+
+    ghost from_gives = { λ fault given. given ≡ FanFault.Memory };
+
+    fn from(_fault: AllocError) -> FanFault {
+        FanFault::Memory
+    }
+}
+
+impl<T: Drop> From<AllocFailed<T>> for FanFault {
+    ghost use Rattle.std.specs.Prelude.{◌≡◌};
+    ghost use Rattle.cd_fan.specs.declared.fan_fault.FanFault.{FanFault};
+
+    ghost from_gives = { λ fault given. given ≡ FanFault.Memory };
+
+    fn from(_fault: AllocFailed<T>) -> FanFault {
+        FanFault::Memory
     }
 }
 
@@ -90,7 +114,7 @@ struct Served {
 
 impl Served {
     // All are left, and will have got the whole text.
-    fn new(alloc: Global, count: usize, len: u64) -> Result<Served, AllocError> {
+    fn new(alloc: Global, count: usize, len: u64) -> Result<Served, FanFault> {
         let mut ends = Vec::with_capacity(alloc, count)?;
         let mut places = Vec::with_capacity(alloc, count)?;
         for place in 0..count {

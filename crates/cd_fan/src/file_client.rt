@@ -3,7 +3,7 @@ ghost use Rattle.cd_base.specs.Counts.{one_more};
 
 use crate::client::SliceClient;
 use cd_base::{Failed, one_more};
-use std::fs::File;
+use std::fs::{self, Files};
 use std::io::{ErrorKind, Write};
 use thiserror::Error;
 
@@ -20,18 +20,48 @@ pub enum FileFault {
 
 /// A client that writes a file. It tells nothing of what it got.
 #[derive(Drop)]
-pub struct FileClient {
-    file: File,
+pub struct FileClient<F> {
+    file: F,
     faults: u64,
 }
 
-impl FileClient {
+impl<F> FileClient<F> {
     /// Makes the file, or empties it where it is there.
-    pub fn create(path: &str) -> Result<FileClient, FileFault> {
-        match File::create(path) {
+    pub fn create<R: Files<File = F>>(files: &R, path: &str) -> Result<FileClient<F>, FileFault> {
+        match fs::create(files, path) {
             Ok(file) => Ok(FileClient { file, faults: 0 }),
             Err(error) if error.kind() == ErrorKind::OutOfMemory => Err(FileFault::Memory),
             Err(_) => Err(FileFault::Failed),
+        }
+    }
+}
+
+impl<F: Write + Drop> SliceClient for FileClient<F> {
+    ghost use Rattle.std.specs.Prelude.{None, false};
+
+    ghost got = { λ _. None };
+
+    ghost faults = { λ c. c.faults };
+
+    ghost steady = { λ _. false };
+
+    fn take(&mut self, _offset: u64, piece: &[u8]) -> Result<(), Failed> {
+        match self.file.write_all(piece) {
+            Ok(()) => Ok(()),
+            Err(_) => {
+                self.faults = one_more(self.faults);
+                Err(Failed)
+            }
+        }
+    }
+
+    fn ended(&mut self) -> Result<(), Failed> {
+        match self.file.flush() {
+            Ok(()) => Ok(()),
+            Err(_) => {
+                self.faults = one_more(self.faults);
+                Err(Failed)
+            }
         }
     }
 }
