@@ -14,6 +14,6 @@ pub use cell_text::put_cell;
 pub use export::{lay_out, write_bag};
 pub use layout::Layout;
 pub use placed_hash::PlacedHash;
-pub use places::{keys_of, refs_of};
+pub use places::{keys_of, place_among};
 pub use shape::{HAS_CACHE_BITS, HAS_CRC, HAS_INDEX, Shape, ZERO_BITS};
 pub use write_fault::WriteFault;

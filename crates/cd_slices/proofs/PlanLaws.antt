@@ -1,10 +1,10 @@
 -- What the plan of an export says of its text.
-use Rattle.std.proofs.Common.{◌≡◌, ℕ, zero, suc, ◌+◌, ◌-◌, ◌≤◌, ◌<◌, List, [], ◌∷◌, ◌++◌, length, take, map, get_or, Option, Some, refl, sym, ap, ◌∙◌, subst, arith, length-append, append-nil, append_assoc, add-one, zero-add, drop, true, inl, inr}
-use Rattle.std.specs.Prelude.{slice_index, slice_index_or, Contains}
+use Rattle.std.proofs.Common.{◌≡◌, ℕ, zero, suc, ◌+◌, ◌-◌, ◌≤◌, ◌<◌, ◌^◌, List, [], ◌∷◌, ◌++◌, length, take, map, get_or, Option, Some, refl, sym, ap, ◌∙◌, subst, arith, length-append, append-nil, append_assoc, add-one, zero-add, drop, true, inl, inr, lit<}
+use Rattle.std.specs.Prelude.{slice_index, slice_index_or, Contains, All}
 use Rattle.std.proofs.lemmas.Bool.{cases_lt}
 use Rattle.std.proofs.lemmas.Bool.Decides.{nat_tests}
-use Rattle.std.proofs.lemmas.List.{length-map, get_or-map, take_more, take_all, take-append-drop}
-use Rattle.std.proofs.lemmas.List.Elements.{Contains-get_or}
+use Rattle.std.proofs.lemmas.List.{length-map, get_or-map, take_more, take_all, take_at, take-append-drop, drop_at, map-append, length_push, get_or_push, get_or_append_left}
+use Rattle.std.proofs.lemmas.List.Elements.{Contains-get_or, All-nil, All-push}
 use Rattle.cd_base.specs.declared.hash.Hash256.{Hash256}
 use Rattle.cd_cell.specs.declared.info.ChildInfo.{ChildInfo}
 use Rattle.cd_cell.specs.declared.new_cell.NewCell.{NewCell}
@@ -19,18 +19,20 @@ use Rattle.cd_boc_write.specs.declared.layout.Layout.{Layout}
 use Rattle.cd_boc_write.specs.CellTexts.{Text, cell_text, texts_text, ends_from}
 use Rattle.cd_base.specs.Checksum.{crc32c}
 use Rattle.cd_base.specs.Numbers.{little}
+use Rattle.cd_base.proofs.NumberLaws.{length-little}
 use Rattle.cd_boc_write.specs.Frames.{body_text}
-use Rattle.cd_boc_write.proofs.HeaderLaws.{export_text-parts, body_text-export, data_len-export}
+use Rattle.cd_boc_write.proofs.HeaderLaws.{export_text-parts, body_text-export, data_len-export, length-export_text}
 use Rattle.cd_boc_write.specs.Exports.{width_of, refs_among, text_of_face, text_of_cell, export_texts, export_frame, export_text, header_of}
 use Rattle.cd_boc_write.specs.Layouts.{data_len, start_of, IsLayout}
 use Rattle.cd_boc_write.specs.LayoutOf.{IsLayoutOf}
+use Rattle.cd_boc_write.proofs.WidthLaws.{width_of-fits}
 use Rattle.cd_boc_write.proofs.LayingLaws.{size_of-layout}
 use Rattle.cd_boc_write.proofs.TextLaws.{length-ends_from, texts_text-push, texts_text-append}
 use Rattle.cd_looks.specs.Answers.{IsFaceAt}
 use Rattle.cd_slices.specs.declared.export.Export.{Export}
 use Rattle.cd_slices.specs.declared.export.PlannedCell.{PlannedCell}
 use Rattle.cd_slices.specs.Windows.{filled, window}
-use Rattle.cd_slices.specs.Planned.{IsPlanOf, is_met}
+use Rattle.cd_slices.specs.Planned.{IsPlanOf, AreRefsOf, is_met}
 use Rattle.cd_slices.proofs.WindowLaws.{filled-whole, window-before, window-behind, window-append}
 
 -- a text ends where it and those before it end
@@ -147,9 +149,8 @@ module _ (cells : List NewCell) (export : Export) (is : IsPlanOf cells export) w
       now_is ∙ ap (λ (ts : List ℕ). old ++ window head from until ts) (ap (texts_text size) whole ∙ sym data_is)
 
   -- the whole text is what stands before the cells, these, and the checksum
-  pub parts-join : (from until : ℕ) (end : List ℕ) → end ≡ little 4 export.crc
-      → (window 0 from until export.head.items ++ window export.layout.header_len from until (export_frame cells).cell_data) ++ window (export.layout.header_len + data_len export.layout.ends) from until end ≡ window 0 from until (export_text cells)
-  parts-join from until end end_is =
+  pub parts-join : (from until : ℕ) → (window 0 from until export.head.items ++ window export.layout.header_len from until (export_frame cells).cell_data) ++ window (export.layout.header_len + data_len export.layout.ends) from until export.crc ≡ window 0 from until (export_text cells)
+  parts-join from until =
       let head = header_of (export_frame cells) in
       let cells_text = (export_frame cells).cell_data in
       let crc = little 4 (crc32c (body_text (export_frame cells))) in
@@ -158,7 +159,7 @@ module _ (cells : List NewCell) (export : Export) (is : IsPlanOf cells export) w
       let all_data : data_len export.layout.ends ≡ length cells_text = ap data_len (sym is.layout.index) ∙ data_len-export cells in
       let body_len : export.layout.header_len + data_len export.layout.ends ≡ 0 + length (head ++ cells_text) = omega (arith, head_len, all_data, length-append head cells_text) in
       let first : export.layout.header_len ≡ 0 + length head = omega (arith, head_len) in
-      (λ i. (window 0 from until (is.head i) ++ window (first i) from until cells_text) ++ window (body_len i) from until ((end_is ∙ ap (little 4) is.crc) i))
+      (λ i. (window 0 from until (is.head i) ++ window (first i) from until cells_text) ++ window (body_len i) from until (is.crc i))
       ∙ (ap (λ (l : List ℕ). l ++ window (0 + length (head ++ cells_text)) from until crc) (sym (window-append 0 from until head cells_text))
       ∙ (sym (window-append 0 from until (head ++ cells_text) crc) ∙ ap (window 0 from until) (sym whole)))
 
@@ -194,3 +195,68 @@ met_is layout from until first k up in' early late =
     let rise = ends-rise layout.size layout.off_bytes layout.header_len layout.ends layout.laid_out first k up in' in
     let end : from < layout.header_len + slice_index layout.ends k = omega (arith, rise, early) in
     grind (arith, nat_tests)
+
+-- ---- what a plan takes from the whole text
+
+pub head-taken : (cells : List NewCell) (layout : Layout) → IsLayoutOf cells layout → (text : List ℕ) → text ≡ export_text cells → layout.header_len + 4 ≤ length text
+head-taken cells layout is text text_is = omega (arith, ap length text_is, length-export_text cells, is.header)
+
+pub head-is : (cells : List NewCell) (layout : Layout) → IsLayoutOf cells layout → (text : List ℕ) → text ≡ export_text cells → take layout.header_len text ≡ header_of (export_frame cells)
+head-is cells layout is text text_is =
+    let head = header_of (export_frame cells) in
+    let rest = (export_frame cells).cell_data in
+    let crc = little 4 (crc32c (body_text (export_frame cells))) in
+    let whole : text ≡ head ++ (rest ++ crc) = text_is ∙ (export_text-parts cells ∙ (ap (λ (l : List ℕ). l ++ crc) (body_text-export cells) ∙ append_assoc head rest crc)) in
+    ap (take layout.header_len) whole ∙ take_at head (rest ++ crc) layout.header_len is.header
+
+pub crc-is : (cells : List NewCell) (text : List ℕ) → text ≡ export_text cells → drop (length text - 4) text ≡ little 4 (crc32c (body_text (export_frame cells)))
+crc-is cells text text_is =
+    let body = body_text (export_frame cells) in
+    let crc = little 4 (crc32c body) in
+    let whole : text ≡ body ++ crc = text_is ∙ export_text-parts cells in
+    let at : length body ≡ length text - 4 = omega (arith, ap length whole, length-append body crc, length-little 4 (crc32c body)) in
+    ap (drop (length text - 4)) whole ∙ drop_at body crc (length text - 4) at
+
+-- four numbers, of which the first are those of the children
+pub four-refs : (f : ChildInfo → ℕ) (kids : List ChildInfo) (a b c d : ℕ) → length kids ≤ 4
+    → ((at : ℕ) (e : ChildInfo) → at < length kids → get_or (a ∷ b ∷ c ∷ d ∷ []) at 0 ≡ f (get_or kids at e)) → take (length kids) (a ∷ b ∷ c ∷ d ∷ []) ≡ map f kids
+four-refs f [] a b c d few is = refl
+four-refs f (k ∷ []) a b c d few is = λ i. is 0 k (lit< tt) i ∷ []
+four-refs f (k ∷ l ∷ []) a b c d few is = λ i. is 0 k (lit< tt) i ∷ is 1 k (lit< tt) i ∷ []
+four-refs f (k ∷ l ∷ m ∷ []) a b c d few is = λ i. is 0 k (lit< tt) i ∷ is 1 k (lit< tt) i ∷ is 2 k (lit< tt) i ∷ []
+four-refs f (k ∷ l ∷ m ∷ n ∷ []) a b c d few is = λ i. is 0 k (lit< tt) i ∷ is 1 k (lit< tt) i ∷ is 2 k (lit< tt) i ∷ is 3 k (lit< tt) i ∷ []
+four-refs f (k ∷ l ∷ m ∷ n ∷ o ∷ kids) a b c d few is = absurd (omega arith)
+
+-- the first so many cells are planned
+pub record NumberedSoFar (cells : List NewCell) (size count : ℕ) (planned : List PlannedCell) : Type 0 where
+  pub counted : length planned ≡ count
+  pub hashes : map (λ c. c.hash) planned ≡ map (λ c. c.hash) (take count cells)
+  pub refs : (k : ℕ) (d : PlannedCell) → k < count → AreRefsOf cells (listed_at cells k) (slice_index_or planned k d)
+  pub fits : All (λ c. All (λ number. number < 256 ^ size) c.refs) planned
+
+pub numbered-none : (cells : List NewCell) (size : ℕ) (planned : List PlannedCell) → planned ≡ [] → NumberedSoFar cells size 0 planned
+numbered-none cells size planned none = record {
+  counted = ap length none;
+  hashes = ap (map (λ c. c.hash)) none;
+  refs = λ k d low. absurd (omega arith);
+  fits = subst (All (λ c. All (λ number. number < 256 ^ size) c.refs)) (sym none) (All-nil _);
+}
+
+pub numbered-more : (cells : List NewCell) (size count : ℕ) (planned more : List PlannedCell) (new : PlannedCell) → count < length cells → NumberedSoFar cells size count planned
+    → new.hash ≡ (listed_at cells count).hash → AreRefsOf cells (listed_at cells count) new → All (λ number. number < 256 ^ size) new.refs → more ≡ planned ++ new ∷ [] → NumberedSoFar cells size (count + 1) more
+numbered-more cells size count planned more new there so_far hash refs fits is = record {
+  counted = ap length is ∙ (length_push planned new ∙ ap (λ (n : ℕ). n + 1) so_far.counted);
+  hashes = ap (map (λ c. c.hash)) is ∙ (map-append (λ (c : PlannedCell). c.hash) planned (new ∷ [])
+      ∙ ((λ i. so_far.hashes i ++ hash i ∷ []) ∙ (sym (map-append (λ (c : NewCell). c.hash) (take count cells) (listed_at cells count ∷ [])) ∙ ap (map (λ (c : NewCell). c.hash)) (sym (take_more cells count no_cell there)))));
+  refs = λ k d low. elim (cases_lt k count) [
+    | inl below ↦ subst (AreRefsOf cells (listed_at cells k)) (sym (ap (λ (l : List PlannedCell). get_or l k d) is ∙ get_or_append_left planned (new ∷ []) d k (omega (arith, so_far.counted)))) (so_far.refs k d below)
+    | inr behind ↦ let same : k ≡ count = omega arith in
+        subst (AreRefsOf cells (listed_at cells k)) (sym (ap (λ (l : List PlannedCell). get_or l k d) is ∙ get_or_push planned new d k (omega (arith, so_far.counted))))
+        (subst (λ (n : ℕ). AreRefsOf cells (listed_at cells n) new) (sym same) refs)
+  ];
+  fits = subst (All (λ c. All (λ number. number < 256 ^ size) c.refs)) (sym is) (All-push _ planned new so_far.fits fits);
+}
+
+-- a number of a listed cell, or 0, has room
+pub number-fits : (cells : List NewCell) (size number : ℕ) → length cells ≤ 1048576 → size ≡ width_of (length cells) → number < length cells → number < 256 ^ size
+number-fits cells size number few size_is low = let room = width_of-fits (length cells) few in subst (λ (s : ℕ). number < 256 ^ s) (sym size_is) (omega (arith, room))

@@ -2,6 +2,7 @@
 use Rattle.std.specs.Prelude.{◌≡◌, ℕ, ◌+◌, ◌<◌, ◌&&◌, nat_lt, List, length, map, take, slice_index, slice_index_or, Bool, count_by}
 use Rattle.std.specs.List.{range_with_len}
 use Rattle.cd_base.specs.Checksum.{crc32c}
+use Rattle.cd_base.specs.Numbers.{little}
 use Rattle.cd_base.specs.declared.hash.Hash256.{Hash256}
 use Rattle.cd_cell.specs.Tree.{Tree}
 use Rattle.cd_cell.specs.Export.{distinct_cells}
@@ -15,13 +16,17 @@ use Rattle.cd_boc_write.specs.LayoutOf.{IsLayoutOf}
 use Rattle.cd_slices.specs.declared.export.Export.{Export}
 use Rattle.cd_slices.specs.declared.export.PlannedCell.{PlannedCell}
 
+-- a planned cell has the numbers of a listed cell's children
+abbrev pub AreRefsOf : List NewCell → NewCell → PlannedCell → Type 0
+AreRefsOf cells c planned = take (length c.face.kids) planned.refs ≡ refs_among cells c.face.kids
+
 -- the cells' hashes in the order of the export, the numbers of their children, and the rest of the text
 pub record IsPlanOf (cells : List NewCell) (export : Export) : Type 0 where
   pub hashes : map (λ c. c.hash) export.cells.items ≡ map (λ c. c.hash) cells
-  pub refs : (k : ℕ) (d : PlannedCell) → k < length cells → take (length (listed_at cells k).face.kids) (slice_index_or export.cells.items k d).refs ≡ refs_among cells (listed_at cells k).face.kids
+  pub refs : (k : ℕ) (d : PlannedCell) → k < length cells → AreRefsOf cells (listed_at cells k) (slice_index_or export.cells.items k d)
   pub layout : IsLayoutOf cells export.layout
   pub head : export.head.items ≡ header_of (export_frame cells)
-  pub crc : export.crc ≡ crc32c (body_text (export_frame cells))
+  pub crc : export.crc ≡ little 4 (crc32c (body_text (export_frame cells)))
 
 -- the plan of the export of a tree
 abbrev pub IsPlanOfTree : (List ℕ → Hash256) → Tree → Export → Type 0

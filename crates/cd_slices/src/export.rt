@@ -38,8 +38,8 @@ pub struct Export {
     pub(crate) layout: Layout,
     // All that stands before the cell data.
     pub(crate) head: Vec<u8>,
-    // The checksum of all that stands before it.
-    pub(crate) crc: u32,
+    // The bytes of the checksum, which end the text.
+    pub(crate) crc: [u8; 4],
     ghost counted: { length cells.items ≡ length layout.ends },
     ghost headed: { length head.items ≡ layout.header_len },
     ghost numbered: { All (λ c. All (λ number. number < 256 ^ layout.size) c.refs) cells.items },
@@ -122,7 +122,7 @@ impl Export {
         put_window(&mut part, &self.head, 0, offset, until)?;
         self.put_cells(alloc, look, &mut part, offset, until)?;
         let checksum_at = self.len() - 4;
-        put_window(&mut part, &self.crc.to_le_bytes(), checksum_at, offset, until)?;
+        put_window(&mut part, &self.crc, checksum_at, offset, until)?;
         Ok(part)
     }
 

@@ -1,20 +1,26 @@
-ghost use Rattle.std.specs.Prelude.{◌≡◌, ◌<◌, ◌≤◌, ℕ, List, length, map, All, Some, Err, IfOk, OnOk};
+ghost use Rattle.std.specs.Prelude.{◌≡◌, ◌+◌, ◌-◌, ◌^◌, ◌<◌, ◌≤◌, ℕ, List, length, map, take, drop, slice_index_or, All, Some, Err, IfOk, OnOk};
 ghost use Rattle.cd_base.specs.declared.hash.Hash256.{Hash256};
 ghost use Rattle.cd_cell.specs.Tree.{Tree};
 ghost use Rattle.cd_cell.specs.GoodFace.{IsGoodFace};
 ghost use Rattle.cd_cell.specs.Export.{distinct_cells};
-ghost use Rattle.cd_cell.specs.Listings.{new_cell_of};
+ghost use Rattle.cd_cell.specs.Infos.{rep_of_info};
+ghost use Rattle.cd_cell.specs.Listings.{listed_at, new_cell_of};
+ghost use Rattle.cd_cell.specs.declared.info.ChildInfo.{ChildInfo};
+ghost use Rattle.cd_cell.specs.declared.new_cell.NewCell.{NewCell};
+ghost use Rattle.cd_boc_write.specs.Exports.{place_among, width_of};
+ghost use Rattle.cd_boc_write.specs.Keys.{AreKeysOf};
+ghost use Rattle.cd_slices.specs.declared.export.PlannedCell.{PlannedCell};
 ghost use Rattle.cd_event.specs.Turning.{HandsOn, RisesOnly, counted};
 ghost use Rattle.cd_looks.specs.Answers.{IsRootOf};
 ghost use Rattle.cd_slices.specs.Faults.{is_plan_failed};
 ghost use Rattle.cd_slices.specs.Gathering.{AreWholeLists, AreAllCells};
-ghost use Rattle.cd_slices.specs.Planned.{IsPlanOf, IsPlanOfTree};
+ghost use Rattle.cd_slices.specs.Planned.{AreRefsOf, IsPlanOf, IsPlanOfTree};
 
 use crate::export::{Export, PlannedCell};
 use crate::faults::PlanFault;
 use crate::gather::{Gathered, gather};
 use crate::order::ExportKey;
-use cd_boc_write::{WriteFault, keys_of, lay_out, refs_of, write_bag};
+use cd_boc_write::{PlacedHash, WriteFault, keys_of, lay_out, place_among, write_bag};
 use cd_cell::{ChildInfo, MOST_CELLS, NewCell};
 use cd_event::{LookFault, LookUp};
 use std::alloc::{AllocError, Global};
@@ -90,23 +96,66 @@ fn planned(alloc: Global, cells: &[NewCell]) -> Result<Export, WriteFault>
 {
     let layout = lay_out(alloc, cells)?;
     let text = write_bag(alloc, cells)?;
-    let head = text[..layout.header_len as usize].to_vec(alloc)?;
-    let crc = match text.last_chunk::<4>() {
-        Some(last) => u32::from_le_bytes(*last),
-        None => 0,
-    };
-    let keys = keys_of(alloc, cells)?;
-    let mut planned = Vec::with_capacity(alloc, cells.len())?;
-    for cell in cells {
-        planned.push(PlannedCell {
-            hash: cell.hash,
-            refs: refs_of(&keys, cell.face.kids()),
-        })?;
-    }
+    let (head, crc) = frame_of(alloc, &text, layout.header_len as usize)?;
+    let planned = numbered(alloc, cells, layout.size)?;
     Ok(Export {
         cells: planned,
         layout,
         head,
         crc,
     })
+}
+
+// What stands before the cell data of a text, and the checksum that ends it.
+fn frame_of(alloc: Global, text: &[u8], head_len: usize) -> Result<(Vec<u8>, [u8; 4]), AllocError>
+    requires { head_len + 4 ≤ length text.now }
+    ensures head { IfOk result (λ frame. frame.0.items ≡ take head_len text.now) }
+    ensures crc { IfOk result (λ frame. frame.1 ≡ drop (length text.now - 4) text.now) }
+{
+    let head = text[..head_len].to_vec(alloc)?;
+    match text.split_last_chunk::<4>() {
+        Some((_, crc)) => Ok((head, *crc)),
+        None => unreachable!(),
+    }
+}
+
+// The cells' hashes and the numbers of their children, which are written in `size` bytes.
+fn numbered(alloc: Global, cells: &[NewCell], size: u8) -> Result<Vec<PlannedCell>, AllocError>
+    requires few { length cells.now ≤ MOST_CELLS }
+    requires good { All (λ c. IsGoodFace c.face) cells.now }
+    requires size { size ≡ width_of (length cells.now) }
+    ensures hashes { IfOk result (λ planned. map (λ c. c.hash) planned.items ≡ map (λ c. c.hash) cells.now) }
+    ensures refs { IfOk result (λ planned. (k : ℕ) (d : PlannedCell) → k < length cells.now
+        → AreRefsOf cells.now (listed_at cells.now k) (slice_index_or planned.items k d)) }
+    ensures fits { IfOk result (λ planned.
+        All (λ c. All (λ number. number < 256 ^ size) c.refs) planned.items) }
+{
+    let keys = keys_of(alloc, cells)?;
+    let mut planned = Vec::with_capacity(alloc, cells.len())?;
+    for cell in cells {
+        let kids = cell.face.kids();
+        planned.push(PlannedCell {
+            hash: cell.hash,
+            refs: [
+                number_of(&keys, kids, 0),
+                number_of(&keys, kids, 1),
+                number_of(&keys, kids, 2),
+                number_of(&keys, kids, 3),
+            ],
+        })?;
+    }
+    Ok(planned)
+}
+
+// The number of the child in a place, or 0 where there is none.
+fn number_of(keys: &[PlacedHash], kids: &[ChildInfo], place: usize) -> u32
+    ensures value { (cells : List NewCell) (d : ChildInfo) → AreKeysOf cells keys.now
+        → place < length kids.now
+        → result ≡ place_among cells (rep_of_info (slice_index_or kids.now place d)) }
+    ensures none { length kids.now ≤ place → result ≡ 0 }
+{
+    match kids.get(place) {
+        Some(kid) => place_among(keys, &kid.rep()),
+        None => 0,
+    }
 }

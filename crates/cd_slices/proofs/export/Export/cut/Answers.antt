@@ -1,7 +1,4 @@
 use Rattle.std.proofs.Common.{◌≡◌, ◌+◌, ◌-◌, ◌++◌, ◌/◌, ◌^◌, ◌≤◌, zero-add, ℕ, List, map, ap, ◌∙◌, refl, sym, subst, arith, length, length-append}
-use Rattle.std.specs.Int.{bytes_low_first}
-use Rattle.cd_base.specs.Numbers.{little}
-use Rattle.cd_base.proofs.NumberLaws.{bytes_low_first-little, length-little}
 use Rattle.cd_cell.specs.Export.{distinct_cells}
 use Rattle.cd_cell.specs.Listings.{new_cell_of}
 use Rattle.cd_boc_write.specs.Layouts.{data_len}
@@ -10,10 +7,6 @@ use Rattle.cd_slices.specs.Windows.{window, window_len}
 use Rattle.cd_slices.proofs.WindowLaws.{length-window, window_len-append}
 use Rattle.cd_slices.proofs.PlanLaws.{parts-join}
 use Rattle.cd_slices.proofs.export.Export.cut.Goals as goal
-
--- the checksum's bytes
-low_bytes : (crc : ℕ) (end : List ℕ) → end ≡ bytes_low_first 0 4 crc → end ≡ little 4 crc
-low_bytes crc end is = is ∙ (bytes_low_first-little 0 4 crc ∙ ap (little 4) (let one : crc / 1 ≡ crc = omega arith in one))
 
 -- what a piece adds to the length
 more : (at from until n : ℕ) (old new piece : List ℕ) → new ≡ old ++ window at from until piece → length piece ≡ n → length new ≡ length old + window_len at from until n
@@ -33,8 +26,7 @@ returns-clause-bytes g c =
     let none = ap length c.in_ok-part.ensures.items in
     let first = more 0 c.args.offset c.args.until head c.in_ok-part.part.items c.put_window.new.out.items c.deref.result.now c.in_ok-put_window.ensures (ap length c.deref.ensures.value ∙ export.headed) in
     let cells = c.in_ok-put_cells.ensures.bytes in
-    let crc = more (c.len-checksum_at.result - 4) c.args.offset c.args.until 4 c.put_cells.new.part.items c.put_window-2.new.out.items c.to_le_bytes.result c.in_ok-put_window-2.ensures
-        (ap length (low_bytes export.crc c.to_le_bytes.result c.to_le_bytes.ensures) ∙ length-little 4 export.crc) in
+    let crc = more (c.len-checksum_at.result - 4) c.args.offset c.args.until 4 c.put_cells.new.part.items c.put_window-2.new.out.items export.crc c.in_ok-put_window-2.ensures refl in
     let at : c.len-checksum_at.result - 4 ≡ head + body = omega (arith, c.len-checksum_at.ensures.value) in
     let crc_at = crc ∙ ap (λ (n : ℕ). length c.put_cells.new.part.items + window_len n c.args.offset c.args.until 4) (at ∙ sym (zero-add (head + body))) in
     let cells_at = cells ∙ ap (λ (n : ℕ). length c.put_window.new.out.items + window_len n c.args.offset c.args.until body) (sym (zero-add head)) in
@@ -52,5 +44,5 @@ returns-clause-part g c = λ t told plan.
     let first : c.put_window.new.out.items ≡ window 0 from until export.head.items =
         c.in_ok-put_window.ensures ∙ (λ i. c.in_ok-part.ensures.items i ++ window 0 from until (c.deref.ensures.value i)) in
     let both = c.in_ok-put_cells.ensures.part t told cells refl plan ∙ ap (λ (l : List ℕ). l ++ window export.layout.header_len from until (export_frame cells).cell_data) first in
-    c.in_ok-put_window-2.ensures ∙ ((λ i. both i ++ window (at i) from until c.to_le_bytes.result)
-    ∙ parts-join cells export plan from until c.to_le_bytes.result (low_bytes export.crc c.to_le_bytes.result c.to_le_bytes.ensures))
+    c.in_ok-put_window-2.ensures ∙ ((λ i. both i ++ window (at i) from until export.crc)
+    ∙ parts-join cells export plan from until)
