@@ -254,7 +254,7 @@ numbered-more cells size count planned more new there so_far hash refs fits is =
         subst (AreRefsOf cells (listed_at cells k)) (sym (ap (λ (l : List PlannedCell). get_or l k d) is ∙ get_or_push planned new d k (omega (arith, so_far.counted))))
         (subst (λ (n : ℕ). AreRefsOf cells (listed_at cells n) new) (sym same) refs)
   ];
-  fits = subst (All (λ c. All (λ number. number < 256 ^ size) c.refs)) (sym is) (All-push _ planned new so_far.fits fits);
+  fits = subst (All (λ c. All (λ number. number < 256 ^ size) c.refs)) (sym is) (All-push (λ c. All (λ number. number < 256 ^ size) c.refs) planned new so_far.fits fits);
 }
 
 -- a number of a listed cell, or 0, has room
