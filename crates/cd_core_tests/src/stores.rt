@@ -38,7 +38,7 @@ fn bytes_of(alloc: Global, cells: &[Cell]) -> Result<Vec<u8>, Fail> {
 
 /// The state with these cells, prepared.
 pub(crate) fn state<H: Hash32>(alloc: Global, cells: &[Cell]) -> Result<Prepared<H>, Fail>
-    ensures { IfOk result (λ value. Fits H.digest_of value.root value.cells []) }
+    ensures fits { IfOk result (λ value. Fits H.digest_of value.root value.cells []) }
 {
     let bytes = bytes_of(alloc, cells)?;
     let bag: Bag<H> = match read_bag(alloc, bytes.as_slice()) {

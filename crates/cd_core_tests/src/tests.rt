@@ -37,10 +37,7 @@ fn is_as_before(core: &Weak, blocks: usize, pins: usize, leaving: usize) -> bool
     );
     let all = world.blocks.as_slice();
     let gone = all.iter().filter(|block| block.leaving).count();
-    failed
-        && all.len() == blocks
-        && world.pins.as_slice().len() == pins
-        && gone == leaving
+    failed && all.len() == blocks && world.pins.as_slice().len() == pins && gone == leaving
 }
 
 /// A block with w(03) and seqno 1 is there. One with w(35) over w(22) and seqno 0 comes, is pinned or not, expires, and
@@ -225,7 +222,11 @@ fn a_zero_state_that_clashes_stores_nothing(rt: HostRuntime) -> Result<(), Fail>
     let alloc = rt.alloc();
     let mut core: Weak = empty_core(alloc, 9);
     for (cells, over, root) in [
-        ([Cell(&[1, 0], &[])].as_slice(), [Cell(&[0, 1], &[])].as_slice(), weak(5)),
+        (
+            [Cell(&[1, 0], &[])].as_slice(),
+            [Cell(&[0, 1], &[])].as_slice(),
+            weak(5),
+        ),
         (
             [Cell(&[], &[1]), Cell(&[1, 0], &[])].as_slice(),
             [Cell(&[], &[1]), Cell(&[0, 1], &[])].as_slice(),
@@ -236,11 +237,13 @@ fn a_zero_state_that_clashes_stores_nothing(rt: HostRuntime) -> Result<(), Fail>
         store(alloc, &mut core, id, cells)??;
         let mut second = id;
         second.file = weak(1);
-        let Err(ZeroFault::Clash {
-            hash,
-            stored,
-            offered,
-        }) = store(alloc, &mut core, second, over)?
+        let Err(
+            ZeroFault::Clash {
+                hash,
+                stored,
+                offered,
+            },
+        ) = store(alloc, &mut core, second, over)?
         else {
             return Err(Fail::from("no clash"));
         };
@@ -259,9 +262,7 @@ fn a_count_stops_at_the_limit(rt: HostRuntime) -> Result<(), Fail> {
     let id = master_id(0, root);
     let mut small: Core<Untold, Sha> = empty_core(alloc, 3);
     let full = store(alloc, &mut small, id, &FOUR_PLACES)?.err();
-    assert!(rt;
-        matches!(full, Some(ZeroFault::CountFull { hash, count: 4 }) if hash == EMPTY)
-    );
+    assert!(rt; matches!(full, Some(ZeroFault::CountFull { hash, count: 4 }) if hash == EMPTY));
     let mut core: Core<Untold, Sha> = empty_core(alloc, 4);
     store(alloc, &mut core, id, &FOUR_PLACES)??;
     // The same state under another file hash gives the children of its root nothing.
