@@ -1,5 +1,5 @@
 //! Small states by their cells, cores over keepers that fail at chosen calls, and what these hold.
-ghost use Rattle.std.specs.Prelude.{◌≡◌, ◌≤◌, ◌×◌, [], IfOk};
+ghost use Rattle.std.specs.Prelude.{◌≡◌, ◌≤◌, [], IfOk};
 ghost use Rattle.cd_cell.specs.Listings.{Fits};
 ghost use Rattle.cd_record.specs.declared.limits.TheConstants.{GREATEST_COUNT};
 
