@@ -160,8 +160,9 @@ pub(crate) fn blocks_in(
     let mut blocks = Vec::new(alloc);
     let mut after = None;
     for _ in 0..9 {
-        if let Some((key, bytes)) = keeper.next_desc(after)? {
-            let descr = decode_descr(alloc, &key, bytes.as_slice())?;
+        if let Some(found) = keeper.next_desc(after)? {
+            let key = found.0;
+            let descr = decode_descr(alloc, &key, found.1.as_slice())?;
             blocks.push((descr.id, descr.leaving))?;
             after = Some(key);
         }
