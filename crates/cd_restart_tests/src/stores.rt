@@ -1,7 +1,7 @@
 //! Small stores over the weak hash, written record by record.
 
 use cd_base::Hash256;
-use cd_block::{BlockId, BlockIds, Descr, ShardId, encode_descr};
+use cd_block::{BlockId, ShardId};
 use cd_cell::{Hash32, Sha, WeakSum};
 use cd_keeper::SteadyKeeper;
 use cd_restart::{Opened, ScanFault, scan};
@@ -47,25 +47,13 @@ pub(crate) fn record(
     Ok(text)
 }
 
-/// The description of a zero state.
-pub(crate) fn zero_state(
-    alloc: Global,
-    id: BlockId,
-    root: Hash256,
-    depth: u16,
-) -> Result<Vec<u8>, Fail> {
-    let descr = Descr {
-        id,
-        parents: BlockIds::new(alloc),
-        root,
-        depth,
-        tops: BlockIds::new(alloc),
-        leaving: false,
-    };
-    match encode_descr(alloc, &descr) {
-        Ok(text) => Ok(text),
-        Err(_) => Err(Fail::from("no text")),
-    }
+/// The description of a zero state: version, not leaving, no parents, root, depth, no tops.
+pub(crate) fn zero_state(alloc: Global, root: Hash256, depth: u16) -> Result<Vec<u8>, Fail> {
+    let mut text = [1, 0, 0].to_vec(alloc)?;
+    text.extend_from_slice(&root.0)?;
+    text.extend_from_slice(&depth.to_be_bytes())?;
+    text.push(0)?;
+    Ok(text)
 }
 
 /// A state of two cells, the root w(04) over the leaf w(03).
@@ -74,7 +62,7 @@ pub(crate) fn two_cells(alloc: Global) -> Result<SteadyKeeper, Fail> {
     keeper.put_raw_cell(weak(3), record(alloc, 1, &[0, 2, 1], &[])?)?;
     keeper.put_raw_cell(weak(4), record(alloc, 1, &[1, 0], &[(3, 0)])?)?;
     let id = block_id(weak(4), 0);
-    keeper.put_raw_desc(id.to_key(), zero_state(alloc, id, weak(4), 1)?)?;
+    keeper.put_raw_desc(id.to_key(), zero_state(alloc, weak(4), 1)?)?;
     Ok(keeper)
 }
 

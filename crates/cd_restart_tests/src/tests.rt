@@ -18,7 +18,7 @@ fn whole_stores_are_opened_in_both_versions(rt: HostRuntime) -> Result<(), Fail>
     let mut keeper = SteadyKeeper::new(alloc);
     assert!(rt; totals(alloc, &mut keeper) == Some((0, 0, 0)));
     let id = block_id(EMPTY, 0);
-    keeper.put_raw_desc(id.to_key(), zero_state(alloc, id, EMPTY, 0)?)?;
+    keeper.put_raw_desc(id.to_key(), zero_state(alloc, EMPTY, 0)?)?;
     keeper.put_raw_cell(EMPTY, [2, 0, 0, 0, 0, 0, 0, 0, 1, 0, 0].to_vec(alloc)?)?;
     assert!(rt; sha_totals(alloc, &mut keeper) == Some((1, 1, 1)));
     keeper.put_raw_cell(EMPTY, [1, 0, 0, 0, 1, 0, 0].to_vec(alloc)?)?;
@@ -42,13 +42,13 @@ fn descriptions_are_refused(rt: HostRuntime) -> Result<(), Fail> {
     // A zero state of seqno 1, and one whose name has another root.
     let mut keeper = two_cells(alloc)?;
     let later = block_id(weak(4), 1);
-    keeper.put_raw_desc(later.to_key(), zero_state(alloc, later, weak(4), 1)?)?;
+    keeper.put_raw_desc(later.to_key(), zero_state(alloc, weak(4), 1)?)?;
     let due = ScanFault::Lineage {
         key: later.to_key(),
     };
     assert!(rt; refusal(alloc, &mut keeper) == Some(due));
     let mut keeper = two_cells(alloc)?;
-    keeper.put_raw_desc(key, zero_state(alloc, id, weak(3), 0)?)?;
+    keeper.put_raw_desc(key, zero_state(alloc, weak(3), 0)?)?;
     assert!(rt; refusal(alloc, &mut keeper) == Some(ScanFault::Lineage { key }));
     Ok(())
 }
@@ -100,11 +100,11 @@ fn roots_and_counts_are_refused(rt: HostRuntime) -> Result<(), Fail> {
     let id = block_id(weak(4), 0);
     let key = id.to_key();
     let mut keeper = SteadyKeeper::new(alloc);
-    keeper.put_raw_desc(key, zero_state(alloc, id, weak(4), 1)?)?;
+    keeper.put_raw_desc(key, zero_state(alloc, weak(4), 1)?)?;
     let root = weak(4);
     assert!(rt; refusal(alloc, &mut keeper) == Some(ScanFault::RootMissing { key, root }));
     let mut keeper = two_cells(alloc)?;
-    keeper.put_raw_desc(key, zero_state(alloc, id, weak(4), 2)?)?;
+    keeper.put_raw_desc(key, zero_state(alloc, weak(4), 2)?)?;
     let deep = ScanFault::RootDepth {
         key,
         stated: 2,
@@ -138,7 +138,7 @@ fn a_keeper_that_fails_is_told(rt: HostRuntime) -> Result<(), Fail> {
         let mut keeper = MemoryKeeper::new(alloc, [call].to_vec(alloc)?);
         keeper.put_raw_cell(weak(3), record(alloc, 1, &[0, 2, 1], &[])?)?;
         let id = block_id(weak(3), 0);
-        keeper.put_raw_desc(id.to_key(), zero_state(alloc, id, weak(3), 0)?)?;
+        keeper.put_raw_desc(id.to_key(), zero_state(alloc, weak(3), 0)?)?;
         let fault = scan::<MemoryKeeper, WeakSum>(alloc, &mut keeper).err();
         assert!(rt; fault == Some(ScanFault::Keeper));
         assert!(rt; keeper.faults() == 1);
