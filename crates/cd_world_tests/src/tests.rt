@@ -108,7 +108,5 @@ fn rows_grow_and_shrink_in_place(rt: HostRuntime) -> Result<(), Fail> {
     assert_eq!(rt; pins.as_slice().len(), 65);
     pins.drop_pin(1, 63);
     assert_eq!(rt; pins.as_slice().len(), 64);
-    pins.remove(0);
-    assert!(rt; pins.as_slice()[0].pin == 1);
     Ok(())
 }
