@@ -2,8 +2,6 @@
 #![tactic(auto)]
 
 #[cfg(test)]
-mod recount;
-#[cfg(test)]
 mod stores;
 #[cfg(test)]
 mod tests;

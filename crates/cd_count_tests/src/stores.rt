@@ -33,12 +33,7 @@ pub(crate) fn bytes_of(alloc: Global, cells: &[Cell]) -> Result<Vec<u8>, Fail> {
 /// The state with these cells, prepared.
 pub(crate) fn state<H: Hash32>(alloc: Global, cells: &[Cell]) -> Result<Prepared<H>, Fail> {
     let bytes = bytes_of(alloc, cells)?;
-    prepared(alloc, bytes.as_slice())
-}
-
-/// The state of a bag, prepared.
-pub(crate) fn prepared<H: Hash32>(alloc: Global, bytes: &[u8]) -> Result<Prepared<H>, Fail> {
-    let bag: Bag<H> = match read_bag(alloc, bytes) {
+    let bag: Bag<H> = match read_bag(alloc, bytes.as_slice()) {
         Ok(bag) => bag,
         Err(_) => return Err(Fail::from("no bag")),
     };

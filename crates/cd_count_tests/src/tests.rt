@@ -23,13 +23,8 @@ fn a_child_in_four_places_goes_with_the_last_root(rt: HostRuntime) -> Result<(),
     let four: Prepared<WeakSum> = state(alloc, &FOUR_PLACES)?;
     let root = four.root().rep();
     let mut keeper = SteadyKeeper::new(alloc);
-    let batch = store(alloc, &mut keeper, &four, 9)?.ok().ok_or("refused")?;
-    assert!(rt; is_batch(&batch, &[(weak(0), 4), (root, 1)], &[]));
-    assert!(rt; keeper.reads() <= 11);
-    // Another block with this root gives its children nothing.
-    let batch = store(alloc, &mut keeper, &four, 9)?.ok().ok_or("refused")?;
-    assert!(rt; is_batch(&batch, &[(root, 2)], &[]));
-    // And it holds all cells when the one goes.
+    put_cells(alloc, &mut keeper, &four, &[2, 4])?;
+    // The other block with this root holds all cells.
     let first = drop_all(alloc, &mut keeper, &[root])?;
     assert!(rt; is_batch(&first, &[(root, 1)], &[]));
     let reads = keeper.reads();
