@@ -13,5 +13,7 @@ mod write_fault;
 pub use cell_text::put_cell;
 pub use export::{lay_out, write_bag};
 pub use layout::Layout;
+pub use placed_hash::PlacedHash;
+pub use places::{keys_of, place_among};
 pub use shape::{HAS_CACHE_BITS, HAS_CRC, HAS_INDEX, Shape, ZERO_BITS};
 pub use write_fault::WriteFault;

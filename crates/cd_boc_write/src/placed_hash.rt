@@ -4,5 +4,6 @@ use cd_base::Hash256;
 #[derive(Clone, Copy, PartialEq, Eq, PartialOrd, Ord)]
 pub struct PlacedHash {
     pub hash: Hash256,
+    /// The place in the list of cells.
     pub place: u32,
 }

@@ -23,5 +23,6 @@ pub mod ListTests
 pub mod IndexLaws
 pub mod LeastHashes
 pub mod NumberedHashes
+pub mod KeyLaws
 pub mod ClashLaws
 pub mod JoinedTrees

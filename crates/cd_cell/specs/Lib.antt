@@ -8,6 +8,7 @@ pub mod CellFaults
 pub mod Fit
 pub mod Tree
 pub mod Export
+pub mod Keys
 pub mod Unfolding
 pub mod Equality
 pub mod Steady

@@ -34,36 +34,45 @@ no-more None = refl
 no-more (Some cs) = ap {B = Option (List Contents)} Some (sym (append-nil cs))
 
 module _ {K X : Type 0} (held : K → Option Contents) (H : List ℕ → Hash256) (trail : K → Option (List Contents)) (batches faults : K → ℕ) where
-  pub adopted : (k : K) (blocks : List Descr) (start : CoreStart K) (w : World) (journal : List (Entry X))
-      → w ≡ opened blocks → start.world.value ≡ w → start.keeper.value ≡ k → journal ≡ []
-      → AllPairs IsBeforeBlock blocks → All IsDescrFit blocks → All IsDescr blocks → (1 ≤ start.limit) × (start.limit ≤ GREATEST_COUNT)
-      → IfSome (held k) (λ contents. AreSoundContents H (told_in contents (opened blocks)) contents)
+  -- a core that begins with a world and its keeper
+  pub begun : (k : K) (start : CoreStart K) (w : World) (journal : List (Entry X))
+      → start.world.value ≡ w → start.keeper.value ≡ k → journal ≡ [] → w.pins ≡ [] → IsWritable w → w.next ≤ 0 → (1 ≤ start.limit) × (start.limit ≤ GREATEST_COUNT)
+      → IfSome (held k) (λ contents. AreSoundContents H (told_in contents w) contents)
       → (w ≡ world_after start journal) × IsCore held H trail batches faults start journal k
-  adopted k blocks start w journal is value keeper none ordered fit are limited told =
+  begun k start w journal value keeper none bare ready next limited told =
       subst (λ es. (w ≡ world_after start es) × IsCore held H trail batches faults start es k) (sym none) (
         sym value,
         record {
+          no_pins = ap (λ (v : World). v.pins) value ∙ bare;
           follow = tt;
-          writable = subst IsWritable (sym at) (writable-opened blocks ordered fit are);
-          numbered = subst (λ (v : World). v.next ≤ 0) (sym at) (omega arith);
+          writable = subst IsWritable (sym value) ready;
+          numbered = subst (λ (v : World). v.next ≤ 0) (sym value) next;
           limited = limited;
           is_batches = ap batches (sym keeper);
           is_faults = let same = ap faults keeper in omega (arith, same);
           silent = λ e. ap held (sym keeper) ∙ e;
-          told = subst (λ (v : World). IfSome (option_map (λ contents. told_in contents v) (held start.keeper.value)) (λ t. IsHeld held H {X = X} trail start.limit t [] start.keeper.value k)) (sym at)
-              (subst (λ (x : K). IfSome (option_map (λ contents. told_in contents (opened blocks)) (held x)) (λ t. IsHeld held H {X = X} trail start.limit t [] x k)) (sym keeper)
+          told = subst (λ (v : World). IfSome (option_map (λ contents. told_in contents v) (held start.keeper.value)) (λ t. IsHeld held H {X = X} trail start.limit t [] start.keeper.value k)) (sym value)
+              (subst (λ (x : K). IfSome (option_map (λ contents. told_in contents w) (held x)) (λ t. IsHeld held H {X = X} trail start.limit t [] x k)) (sym keeper)
               (by (held k) refl told));
         },
       )
     where
-      at : start.world.value ≡ opened blocks
-      at = value ∙ is
-
-      by : (o : Option Contents) → held k ≡ o → IfSome o (λ contents. AreSoundContents H (told_in contents (opened blocks)) contents)
-          → IfSome (option_map (λ contents. told_in contents (opened blocks)) o) (λ t. IsHeld held H {X = X} trail start.limit t [] k k)
+      by : (o : Option Contents) → held k ≡ o → IfSome o (λ contents. AreSoundContents H (told_in contents w) contents)
+          → IfSome (option_map (λ contents. told_in contents w) o) (λ t. IsHeld held H {X = X} trail start.limit t [] k k)
       by None said so = tt
       by (Some contents) said so = record {
         follow = tt;
         holds = record { contents = contents; is_held = said; are = so };
         trailed = record { more = []; is_trail = no-more (trail k); are = tt };
       }
+
+  -- and one that takes blocks over
+  pub adopted : (k : K) (blocks : List Descr) (start : CoreStart K) (w : World) (journal : List (Entry X))
+      → w ≡ opened blocks → start.world.value ≡ w → start.keeper.value ≡ k → journal ≡ []
+      → AllPairs IsBeforeBlock blocks → All IsDescrFit blocks → All IsDescr blocks → (1 ≤ start.limit) × (start.limit ≤ GREATEST_COUNT)
+      → IfSome (held k) (λ contents. AreSoundContents H (told_in contents (opened blocks)) contents)
+      → (w ≡ world_after start journal) × IsCore held H trail batches faults start journal k
+  adopted k blocks start w journal is value keeper none ordered fit are limited told =
+      begun k start w journal value keeper none (ap (λ (v : World). v.pins) is) (subst IsWritable (sym is) (writable-opened blocks ordered fit are))
+      (subst (λ (v : World). v.next ≤ 0) (sym is) (omega arith)) limited
+      (subst (λ (v : World). IfSome (held k) (λ contents. AreSoundContents H (told_in contents v) contents)) (sym is) told)

@@ -20,7 +20,7 @@ use Rattle.cd_keeper.specs.NoKeyTwice.{same_key}
 use Rattle.cd_world.specs.Image.{image_of, descr_of, descr_entry}
 use Rattle.cd_world.specs.Changes.{placed}
 use Rattle.cd_world.specs.Told.{ToldWorld, block_of, shown, IsSoundBlock}
-use Rattle.cd_world.proofs.Held.{same_bytes}
+use Rattle.cd_world.proofs.Held.{same_bytes, bytes_tie}
 use Rattle.cd_world.proofs.Orders.{Contains-filter}
 use Rattle.cd_count.specs.Changes.{DescsLead}
 use Rattle.cd_count.specs.PlanRows.{descr_puts}
@@ -87,6 +87,14 @@ none-dropped q (d ∷ ds) apart =
 -- a key that ties with another is told apart from what that one is
 pub other-of : (q k y : List ℕ) → same_key q k ≡ true → same_key k y ≡ false → same_key q y ≡ false
 other-of q k y same apart = ap (λ (x : List ℕ). same_key x y) (same_bytes q k same) ∙ apart
+
+-- keys are told apart either way
+pub symmetric : (a b : List ℕ) → same_key a b ≡ false → same_key b a ≡ false
+symmetric a b e = by (same_key b a) refl
+  where
+    by : (c : Bool) → same_key b a ≡ c → same_key b a ≡ false
+    by true f = absurd (true≢false (sym (bytes_tie a b (sym (same_bytes b a f))) ∙ e))
+    by false f = f
 
 -- a block in its place
 pub look-placed : (d : Descr) (xs : List Descr) (q : List ℕ) → ((x : Descr) → Contains xs x → same_key (key d) (key x) ≡ false) → look (placed d xs) q ≡ option_or (look (d ∷ []) q) (look xs q)

@@ -36,7 +36,7 @@ use Rattle.cd_core.specs.Steps.{Did, DidTold, moved_by}
 
 -- ---- the next pin's number
 
-next-without_pins : (w : World) (rows : List PinRow) → (let v = without_pins w rows in v.next) ≡ w.next
+pub next-without_pins : (w : World) (rows : List PinRow) → (let v = without_pins w rows in v.next) ≡ w.next
 next-without_pins w [] = refl
 next-without_pins w (row ∷ rows) = next-without_pins (without_pin w row) rows
 
@@ -154,6 +154,7 @@ module _ {K X : Type 0} (held : K → Option Contents) (H : List ℕ → Hash256
   pub core-step : (start : CoreStart K) (es : List (Entry X)) (w w' : World) (k k' : K) (who : Who) (event : Event X) (answer : Option Reply)
       → w ≡ world_after start es → Is start es k → Done start w k who event answer w' k' → Is start (es ++ entries_of who event answer) k'
   core-step start es w w' k k' who event None same is did = subst (λ fs. Is start fs k') (sym (append-nil es)) (record {
+    no_pins = is.no_pins;
     follow = is.follow;
     writable = is.writable;
     numbered = is.numbered;
@@ -169,6 +170,7 @@ module _ {K X : Type 0} (held : K → Option Contents) (H : List ℕ → Hash256
       let on : world_after start (es ++ e ∷ []) ≡ after (world_after start es) e = replay-append start.world.value es (e ∷ []) in
       let moved_on : world_after start (es ++ e ∷ []) ≡ w' = on ∙ ap (λ v. after v e) (sym same) ∙ sym did.world in
       record {
+        no_pins = is.no_pins;
         follow = all_follow-join H start.world.value es (e ∷ []) is.follow (subst (λ v. Follows H v e) same did.follows, tt);
         writable = subst IsWritable (sym moved_on) did.writable;
         numbered = omega (arith, ap (λ (v : World). v.next) on, next-after (world_after start es) e, is.numbered, length-append es (e ∷ []));
@@ -243,6 +245,7 @@ module _ {K X : Type 0} (held : K → Option Contents) (H : List ℕ → Hash256
       let core = is.1 in (
         is.0,
         record {
+          no_pins = core.no_pins;
           follow = core.follow;
           writable = core.writable;
           numbered = core.numbered;

@@ -35,7 +35,7 @@ use Rattle.cd_count.proofs.Changes.{leads}
 use Rattle.cd_core.proofs.DescrTables.{key, look-placed, keys-apart, descs-lead}
 
 -- one key stands once
-one-key : (d : Descr) → IsDistinct same_key (keys_of (descr_puts (d ∷ [])))
+pub one-key : (d : Descr) → IsDistinct same_key (keys_of (descr_puts (d ∷ [])))
 unfolding IsDistinct
 one-key d = (tt, tt)
 

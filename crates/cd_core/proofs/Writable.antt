@@ -1,5 +1,5 @@
 -- What is kept of a world for every keeper stays so.
-use Rattle.std.proofs.Common.{ℕ, ◌≤◌, Bool, true, false, cond, List, [], ◌∷◌, length, Option, Some, None, subst, arith, ⊎_elim}
+use Rattle.std.proofs.Common.{◌≡◌, ℕ, ◌≤◌, Bool, true, false, cond, List, [], ◌∷◌, length, Option, Some, None, subst, arith, ⊎_elim}
 use Rattle.std.specs.Prelude.{filter, not, Contains}
 use Rattle.std.specs.List.{AllByRecursion}
 use Rattle.std.specs.Option.{option_to_list}
@@ -14,13 +14,13 @@ use Rattle.cd_event.specs.declared.event.Event.{Event}
 use Rattle.cd_event.specs.declared.event.Event.TheVariants.{Zero, Pin, Look, Merge, Unpin, Expire}
 use Rattle.cd_world.specs.declared.world.World.{World}
 use Rattle.cd_world.specs.declared.world.PinRow.{PinRow}
-use Rattle.cd_world.specs.Standing.{kept_at, pin_at, is_expired}
-use Rattle.cd_world.specs.Changes.{placed, stored, goes_with, goes_at_once, marked, without_pin, without_pins}
+use Rattle.cd_world.specs.Standing.{block_at, kept_at, pin_at, is_expired}
+use Rattle.cd_world.specs.Changes.{placed, stored, with_block, goes_with, goes_at_once, marked, without_pin, without_pins}
 use Rattle.cd_world.specs.Machine.{is_refused, merge_rows, blocks_of, moved, after, unless_expired}
 use Rattle.cd_world.specs.Following.{Follows}
 use Rattle.cd_world.specs.Soundness.{IsStorable}
 use Rattle.cd_world.proofs.Orders.{Contains-filter, All-from_Contains, Contains-placed}
-use Rattle.cd_world.proofs.TidyWorlds.{tidy_after}
+use Rattle.cd_world.proofs.TidyWorlds.{tidy_after, tidy-with_block}
 use Rattle.std.proofs.lemmas.List.Elements.{All-contains}
 use Rattle.cd_cell.proofs.Subtrees.{Contains-map}
 use Rattle.cd_core.specs.Cores.{IsWritable}
@@ -57,9 +57,23 @@ written-expired w (Some m) are d h =
     let there = Contains-filter (λ e. not (goes_at_once w m e)) w.blocks from.0 from.1 in
     subst (λ (e : Descr). IsDescrFit e × IsDescr e) from.2 (written-marked m from.0 (are from.0 there.0))
 
+written-placed : (d : Descr) (blocks : List Descr) → IsDescrFit d × IsDescr d → AreWritten blocks → AreWritten (placed d blocks)
+written-placed d blocks is are e h =
+    ⊎_elim (λ same. subst (λ (x : Descr). IsDescrFit x × IsDescr x) same is) (λ old. are e old) (Contains-placed d blocks e h)
+
+-- a block comes
+pub writable-with_block : (w : World) (d : Descr) → IsWritable w → block_at w d.id ≡ None → IsDescrFit d × IsDescr d → IsWritable (with_block w d)
+writable-with_block w d is fresh can =
+    let are = written-placed d w.blocks can (written w is) in
+    record {
+      tidy = tidy-with_block w is.tidy d fresh;
+      fit = All-from_Contains IsDescrFit _ (λ e h. let both = are e h in both.0);
+      are = All-from_Contains IsDescr _ (λ e h. let both = are e h in both.1);
+    }
+
 module _ (H : List ℕ → Hash256) where
   -- a description of a storable value
-  written-stored : (id : BlockId) (parents tops : List BlockId) (p : PreparedView) → IsStorable H id tops p
+  pub written-stored : (id : BlockId) (parents tops : List BlockId) (p : PreparedView) → IsStorable H id tops p
       → length parents ≤ 2 → AllByRecursion IsBlockId parents
       → IsDescrFit (stored id parents tops p) × IsDescr (stored id parents tops p)
   written-stored id parents tops p is few named =
@@ -67,10 +81,6 @@ module _ (H : List ℕ → Hash256) where
         record { parents = few; depth = valid.shallow; tops = is.few; tops_on_master = is.on_master },
         record { id = is.named; parents = named; root = is.root; tops = is.tops_named },
       )
-
-  written-placed : (d : Descr) (blocks : List Descr) → IsDescrFit d × IsDescr d → AreWritten blocks → AreWritten (placed d blocks)
-  written-placed d blocks is are e h =
-      ⊎_elim (λ same. subst (λ (x : Descr). IsDescrFit x × IsDescr x) same is) (λ old. are e old) (Contains-placed d blocks e h)
 
   module _ {X : Type 0} where
     -- what a call asks of an event for every keeper

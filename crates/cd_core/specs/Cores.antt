@@ -85,10 +85,11 @@ module _ {K : Type 0} (held : K → Option Contents) where
       -- ---- the core
 
       module _ (batches faults : K → ℕ) where
-        -- Each entry follows the world so far. The keeper's count of batches is that of the entries, and its count of
-        -- faults rose by at least the number of those that say that it failed, or stands at the last u64. A keeper that
-        -- told nothing at the start tells nothing.
+        -- There are no pins at the start. Each entry follows the world so far. The keeper's count of batches is that of
+        -- the entries, and its count of faults rose by at least the number of those that say that it failed, or stands
+        -- at the last u64. A keeper that told nothing at the start tells nothing.
         pub record IsCore (start : CoreStart K) (journal : List (Entry X)) (now : K) : Type 0 where
+          pub no_pins : (let w = start.world.value in w.pins) ≡ []
           pub follow : AllFollow H start.world.value journal
           pub writable : IsWritable (world_after start journal)
           pub numbered : (let w = world_after start journal in w.next) ≤ length journal

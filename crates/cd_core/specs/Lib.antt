@@ -1,6 +1,10 @@
 pub mod Cores
 pub mod Effects
+pub mod Going
+pub mod Merging
 pub mod Passing
+pub mod Settling
 pub mod Steps
 pub mod Storing
 pub mod Totalling
+pub mod Workers

@@ -7,6 +7,8 @@ use Rattle.cd_keeper.specs.Contents.{Contents, Change}
 use Rattle.cd_keeper.specs.Keeping.{IsApplied}
 use Rattle.cd_event.specs.declared.faults.ZeroFault.{ZeroFault}
 use Rattle.cd_event.specs.declared.faults.ZeroFault.TheVariants as zero
+use Rattle.cd_event.specs.declared.faults.MergeFault.{MergeFault}
+use Rattle.cd_event.specs.declared.faults.MergeFault.TheVariants as merge
 use Rattle.cd_event.specs.declared.refusal.Refusal.{Refusal}
 use Rattle.cd_event.specs.declared.refusal.Refusal.TheVariants as refusal
 use Rattle.cd_count.specs.declared.count_fault.CountFault.{CountFault}
@@ -29,6 +31,12 @@ zero_of (count.Clash hash stored offered) = zero.Clash hash stored offered
 zero_of (count.CountFull hash n) = zero.CountFull hash n
 zero_of count.Keeper = zero.Keeper
 zero_of count.Memory = zero.Memory
+
+abbrev pub merge_of : CountFault → MergeFault
+merge_of (count.Clash hash stored offered) = merge.Clash hash stored offered
+merge_of (count.CountFull hash n) = merge.CountFull hash n
+merge_of count.Keeper = merge.Keeper
+merge_of count.Memory = merge.Memory
 
 -- the cells refuse exactly what the plan does, unless the keeper fails or memory is wanting
 abbrev pub IsJudged : {T : Type 0} → Option Refusal → Result T CountFault → Type 0

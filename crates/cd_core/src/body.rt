@@ -1,6 +1,6 @@
 //! The core, and what it keeps.
 ghost use Rattle.std.specs.Prelude.{◌≡◌, ◌≤◌, ◌++◌, ◌∷◌, [], List, All, AllPairs, length, ◌<◌, ◌^◌, IfSome, OnOk, OnErr};
-ghost use Rattle.cd_block.specs.Description.{IsDescr, IsDescrFit};
+ghost use Rattle.cd_block.specs.Description.{IsDescrFit};
 ghost use Rattle.cd_record.specs.declared.limits.TheConstants.{GREATEST_COUNT};
 ghost use Rattle.cd_event.specs.declared.entry.Entry.{Entry};
 ghost use Rattle.cd_event.specs.Replies.{entries_of};
@@ -9,6 +9,7 @@ ghost use Rattle.cd_world.specs.Unfolded.{told_in};
 ghost use Rattle.cd_count.specs.SoundContents.{AreSoundContents};
 ghost use Rattle.cd_core.specs.Cores.{IsCore, opened, world_of};
 
+use crate::knowing::know_blocks;
 use crate::start::CoreStart;
 use cd_base::Memory;
 use cd_block::Descr;
@@ -48,7 +49,6 @@ impl<K: Keeper, H: Hash32> Core<K, H> {
     pub fn adopt(alloc: Global, keeper: K, blocks: Vec<Descr>, limit: u64) -> Core<K, H>
         requires ordered { AllPairs IsBeforeBlock blocks.items }
         requires fit { All IsDescrFit blocks.items }
-        requires are { All IsDescr blocks.items }
         requires limit { (1 ≤ limit) × (limit ≤ GREATEST_COUNT) }
         requires told { IfSome (K.held keeper) (λ contents.
             AreSoundContents H.digest_of (told_in contents (opened blocks.items)) contents) }
@@ -57,6 +57,7 @@ impl<K: Keeper, H: Hash32> Core<K, H> {
         ensures limit { result.start.limit ≡ limit }
         ensures journal { result.journal ≡ [] }
     {
+        know_blocks(blocks.as_slice());
         let world = World {
             blocks: Rows::from(blocks),
             pins: Rows::new(alloc),

@@ -214,7 +214,7 @@ fn plan_going<K: Keeper, H: Hash32>(
 }
 
 /// A plan's fault from outside as the keeper's.
-fn keep_fault(fault: CountFault) -> KeepFault
+pub(crate) fn keep_fault(fault: CountFault) -> KeepFault
     ensures { result ≡ keep_of fault }
 {
     match fault {

@@ -4,14 +4,19 @@
 mod body;
 mod collecting;
 mod expiring;
+mod knowing;
 mod looking;
+mod merging;
+mod one_thread;
 mod pinning;
 mod placing;
 mod replying;
+mod settling;
 mod start;
 mod storing;
 mod totalling;
 mod unpinning;
 
 pub use body::Core;
+pub use one_thread::OneThread;
 pub use start::CoreStart;

@@ -39,7 +39,7 @@ impl<K: Keeper, H: Hash32> Core<K, H> {
 }
 
 /// What the root of a block's state shows: its mask is 0.
-fn root_of(block: &Descr) -> ChildInfo
+pub(crate) fn root_of(block: &Descr) -> ChildInfo
     ensures { result ≡ root_info block.now }
 {
     ChildInfo {

@@ -30,7 +30,7 @@ use cd_world::World;
 use std::alloc::Global;
 
 /// Tells a caller's proof what each id is, and does nothing.
-fn know_all(ids: &[BlockId])
+pub(crate) fn know_all(ids: &[BlockId])
     ensures { AllByRecursion IsBlockId ids.now }
 {
     for id in ids {

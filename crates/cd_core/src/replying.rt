@@ -4,7 +4,8 @@ ghost use Rattle.cd_event.specs.Replies as spec;
 
 use cd_cell::Face;
 use cd_event::{
-    ExpireFault, LookFault, PinFault, Pinned, Refusal, Reply, Stored, UnpinFault, ZeroFault,
+    ExpireFault, LookFault, MergeFault, PinFault, Pinned, Refusal, Reply, Stored, UnpinFault,
+    ZeroFault,
 };
 
 pub(crate) fn pin_reply(answer: &Result<Pinned, PinFault>) -> Option<Reply>
@@ -92,6 +93,37 @@ pub(crate) fn zero_reply(answer: &Result<Stored, ZeroFault>) -> Option<Reply>
         },
         ZeroFault::Keeper => Refusal::Keeper,
         ZeroFault::Memory => return None,
+    };
+    Some(Reply::Refused(refusal))
+}
+
+pub(crate) fn merge_reply(answer: &Result<Stored, MergeFault>) -> Option<Reply>
+    ensures { result ≡ spec.merge_reply answer.now }
+{
+    let fault = match answer {
+        Ok(_) => return Some(Reply::Stored),
+        Err(fault) => fault,
+    };
+    let refusal = match fault {
+        MergeFault::NoPin => Refusal::NoPin,
+        MergeFault::WrongPin => Refusal::WrongPin,
+        MergeFault::Known => Refusal::Known,
+        MergeFault::Lineage(fault) => Refusal::Lineage(*fault),
+        MergeFault::Clash {
+            hash,
+            stored,
+            offered,
+        } => Refusal::Clash {
+            hash: *hash,
+            stored: *stored,
+            offered: *offered,
+        },
+        MergeFault::CountFull { hash, count } => Refusal::CountFull {
+            hash: *hash,
+            count: *count,
+        },
+        MergeFault::Keeper => Refusal::Keeper,
+        MergeFault::Memory => return None,
     };
     Some(Reply::Refused(refusal))
 }

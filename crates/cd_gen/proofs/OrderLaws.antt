@@ -22,12 +22,13 @@ use Rattle.cd_cell.proofs.Subtrees.{Contains-first, Contains-later, Contains-cas
 use Rattle.cd_cell.proofs.ExportOrder.{hash_cmp-total}
 use Rattle.cd_cell.proofs.Distinct.{rises-from_AllPairs, AreDistinct-sorted_distinct, same-rising, one_place-rising}
 use Rattle.cd_gen.specs.declared.cell.Cell.{Cell}
-use Rattle.cd_gen.specs.declared.key.Place.{Place}
-use Rattle.cd_gen.specs.declared.key.Key.{Key}
+use Rattle.cd_cell.specs.declared.export_key.ExportRank.{ExportRank}
+use Rattle.cd_cell.specs.declared.export_key.ExportKey.{ExportKey}
 use Rattle.cd_gen.specs.States.{sha}
 use Rattle.cd_gen.specs.Listing.{turned, faces, faces_of}
-use Rattle.cd_gen.specs.Keys.{place_cmp, key_of, listed_cell, cell_at, AreKeys, AreFirst}
-use Rattle.cd_gen.proofs.KeyLaws.{place_cmp-total}
+use Rattle.cd_cell.specs.Keys.{rank_cmp, export_key, AreFirst}
+use Rattle.cd_gen.specs.Keys.{listed_cell, cell_at, AreKeys}
+use Rattle.cd_cell.proofs.KeyLaws.{rank_cmp-total}
 use Rattle.cd_gen.proofs.ListingLaws.{map-reverse}
 
 -- ---- sorted lists without ties, by their last elements
@@ -108,14 +109,14 @@ turned-heights x y low-x low-y = grind (arith, nat_tests)
 listing_cmp-total : IsTotalOrder listing_cmp
 listing_cmp-total = then_total (back_total (on_total (λ (c : NewCell). height_of_face c.face) nat_cmp_total)) (on_total (λ (c : NewCell). c.hash) hash_cmp-total)
 
-abbrev place_at : NewCell → Place
+abbrev place_at : NewCell → ExportRank
 place_at c = record { lowness = 65535 - height_of_face c.face; hash = c.hash }
 
-abbrev key_at : List NewCell → ℕ → Key
-key_at cs n = record { place = place_at (listed_at cs n); number = n }
+abbrev key_at : List NewCell → ℕ → ExportKey
+key_at cs n = record { rank = place_at (listed_at cs n); number = n }
 
-abbrev no_key : Key
-no_key = record { place = record { lowness = 0; hash = no_hash }; number = 0 }
+abbrev no_key : ExportKey
+no_key = record { rank = record { lowness = 0; hash = no_hash }; number = 0 }
 
 -- a cell with a good face under the hash of it
 pub record IsOwn (c : NewCell) : Type 0 where
@@ -128,41 +129,41 @@ Contains-reverse xs z h =
     (length xs - 1 - h.0, omega (arith, long, h.1), sym (get_or-reverse xs h.0 z (omega (arith, long, h.1))) ∙ h.2)
 
 module _ (cs : List NewCell) (infos : List ChildInfo) (own : (n : ℕ) → n < length cs → IsOwn (listed_at cs n)) (shown : (n : ℕ) → n < length cs → get_or infos n no_info ≡ info_of_face sha (listed_at cs n).face) where
-  module _ (old new : List Key) (made : AreKeys infos old (length cs)) (first : AreFirst old new) where
-    abbrev at : Key → NewCell
+  module _ (old new : List ExportKey) (made : AreKeys infos old (length cs)) (first : AreFirst old new) where
+    abbrev at : ExportKey → NewCell
     at key = listed_at cs key.number
 
-    key-made : (n : ℕ) → n < length cs → key_of (get_or infos n no_info) n ≡ key_at cs n
+    key-made : (n : ℕ) → n < length cs → export_key (get_or infos n no_info) n ≡ key_at cs n
     key-made n in' =
-        ap₂ (λ h r. let k : Key = record { place = record { lowness = 65535 - h; hash = r }; number = n } in k)
+        ap₂ (λ h r. let k : ExportKey = record { rank = record { lowness = 65535 - h; hash = r }; number = n } in k)
         (ap height_of_info (shown n in')) (ap rep_of_info (shown n in') ∙ sym (own n in').hashed)
 
-    key-is : (key : Key) → Contains old key → (key.number < length cs) × (key ≡ key_at cs key.number)
+    key-is : (key : ExportKey) → Contains old key → (key.number < length cs) × (key ≡ key_at cs key.number)
     key-is key h =
         let in' : h.0 < length cs = omega (arith, h.1, made.counted) in
         let is : key ≡ key_at cs h.0 = sym h.2 ∙ made.made h.0 key no_info in' ∙ key-made h.0 in' in
-        let number : key.number ≡ h.0 = ap (λ (k : Key). k.number) is in
+        let number : key.number ≡ h.0 = ap (λ (k : ExportKey). k.number) is in
         (omega (arith, number, in'), is ∙ ap (key_at cs) (sym number))
 
     key-there : (n : ℕ) → n < length cs → Contains old (key_at cs n)
     key-there n in' = (n, omega (arith, made.counted, in'), made.made n (key_at cs n) no_info in' ∙ key-made n in')
 
-    new-is : (key : Key) → Contains new key → (key.number < length cs) × (key ≡ key_at cs key.number)
+    new-is : (key : ExportKey) → Contains new key → (key.number < length cs) × (key ≡ key_at cs key.number)
     new-is key h = key-is key (first.within key h)
 
-    pub all-there : All (λ (key : Key). key.number < length cs) new
+    pub all-there : All (λ (key : ExportKey). key.number < length cs) new
     all-there k d in' = (new-is (get_or new k d) (Contains-get_or new k d in')).0
 
-    ranked : (i j : ℕ) → i < length cs → j < length cs → place_cmp (place_at (listed_at cs i)) (place_at (listed_at cs j)) ≡ listing_cmp (listed_at cs i) (listed_at cs j)
+    ranked : (i j : ℕ) → i < length cs → j < length cs → rank_cmp (place_at (listed_at cs i)) (place_at (listed_at cs j)) ≡ listing_cmp (listed_at cs i) (listed_at cs j)
     ranked i j in-i in-j =
         ap (λ o. ordering_then o (hash_cmp (listed_at cs i).hash (listed_at cs j).hash))
         (turned-heights (height_of_face (listed_at cs i).face) (height_of_face (listed_at cs j).face) ((own i in-i).good.fit.depths 3 (omega arith)) ((own j in-j).good.fit.depths 3 (omega arith)))
 
-    ranked-keys : (a b : Key) → Contains new a → Contains new b → place_cmp a.place b.place ≡ listing_cmp (at a) (at b)
+    ranked-keys : (a b : ExportKey) → Contains new a → Contains new b → rank_cmp a.rank b.rank ≡ listing_cmp (at a) (at b)
     ranked-keys a b in-a in-b =
         let is-a = new-is a in-a in
         let is-b = new-is b in-b in
-        ap₂ (λ (x y : Key). place_cmp x.place y.place) is-a.1 is-b.1 ∙ ranked a.number b.number is-a.0 is-b.0
+        ap₂ (λ (x y : ExportKey). rank_cmp x.rank y.rank) is-a.1 is-b.1 ∙ ranked a.number b.number is-a.0 is-b.0
 
     ordered : AllPairs (λ a b. listing_cmp a b ≡ Less) (map at new)
     ordered i j d before in' =
@@ -174,20 +175,20 @@ module _ (cs : List NewCell) (infos : List ChildInfo) (own : (n : ℕ) → n < l
         ∙ first.ordered i j no_key before in-new
 
     -- a kept key is the first of its place
-    is-first : (key : Key) → Contains new key → (m : ℕ) → m < key.number → listing_cmp (at key) (listed_at cs m) ≢ Equal
+    is-first : (key : ExportKey) → Contains new key → (m : ℕ) → m < key.number → listing_cmp (at key) (listed_at cs m) ≢ Equal
     is-first key h m before tie =
         let is = new-is key h in
         let in-m : m < length cs = omega (arith, is.0) in
         let other = first.whole (key_at cs m) (key-there m in-m) in
-        let tied : place_cmp key.place other.0.place ≡ Equal = ap (λ p. place_cmp key.place p) other.2 ∙ ap (λ (k : Key). place_cmp k.place (place_at (listed_at cs m))) is.1 ∙ ranked key.number m is.0 in-m ∙ tie in
-        let one : key ≡ other.0 = one-tied (λ (a b : Key). place_cmp a.place b.place) (on_total (λ (k : Key). k.place) place_cmp-total) new first.ordered key other.0 h other.1 tied in
-        let number : key.number ≡ other.0.number = ap (λ (k : Key). k.number) one in
+        let tied : rank_cmp key.rank other.0.rank ≡ Equal = ap (λ p. rank_cmp key.rank p) other.2 ∙ ap (λ (k : ExportKey). rank_cmp k.rank (place_at (listed_at cs m))) is.1 ∙ ranked key.number m is.0 in-m ∙ tie in
+        let one : key ≡ other.0 = one-tied (λ (a b : ExportKey). rank_cmp a.rank b.rank) (on_total (λ (k : ExportKey). k.rank) rank_cmp-total) new first.ordered key other.0 h other.1 tied in
+        let number : key.number ≡ other.0.number = ap (λ (k : ExportKey). k.number) one in
         omega (arith, number, other.3, before)
 
     abbrev sorted : List NewCell
     sorted = sorted_distinct listing_cmp (reverse cs)
 
-    kept-sorted : (key : Key) → Contains new key → Contains sorted (at key)
+    kept-sorted : (key : ExportKey) → Contains new key → Contains sorted (at key)
     kept-sorted key h =
         let is = new-is key h in
         let long = length-reverse cs in
@@ -218,8 +219,8 @@ module _ (cs : List NewCell) (infos : List ChildInfo) (own : (n : ℕ) → n < l
         let tied : listing_cmp (at kept.0) z ≡ Equal =
         ap (listing_cmp (at kept.0)) (sym is)
         ∙ sym (ranked kept.0.number there.0 is-kept.0 there.1)
-        ∙ ap (λ p. place_cmp p (place_at (listed_at cs there.0))) (sym (ap (λ (k : Key). k.place) is-kept.1) ∙ kept.2)
-        ∙ tied_itself place_cmp-total (place_at (listed_at cs there.0)) in
+        ∙ ap (λ p. rank_cmp p (place_at (listed_at cs there.0))) (sym (ap (λ (k : ExportKey). k.rank) is-kept.1) ∙ kept.2)
+        ∙ tied_itself rank_cmp-total (place_at (listed_at cs there.0)) in
         subst (Contains (map at new)) (one-tied listing_cmp listing_cmp-total sorted distinct.ordered (at kept.0) z (kept-sorted kept.0 kept.1) h tied)
         (Contains-mapped at new kept.0 kept.1))
 
@@ -249,14 +250,14 @@ all-by_tree : (ts : List Tree) → map cell_with (map (face_of sha) ts) ≡ map 
 all-by_tree [] = refl
 all-by_tree (t ∷ ts) = ap₂ (λ x xs. x ∷ xs) (by-tree t) (all-by_tree ts)
 
-module _ (cells : List Cell) (old new : List Key) (keys : AreKeys (map (λ (c : Cell). c.info) cells) old (length cells)) (first : AreFirst old new) where
+module _ (cells : List Cell) (old new : List ExportKey) (keys : AreKeys (map (λ (c : Cell). c.info) cells) old (length cells)) (first : AreFirst old new) where
   long : length cells ≡ length (map listed_cell cells)
   long = sym (length-map cells listed_cell)
 
   made : AreKeys (map (λ (c : Cell). c.info) cells) old (length (map listed_cell cells))
   made = subst (AreKeys (map (λ (c : Cell). c.info) cells) old) long keys
 
-  pub keys-there : All (λ (key : Key). key.number < length cells) new
+  pub keys-there : All (λ (key : ExportKey). key.number < length cells) new
   keys-there k d in' = omega (arith, long, all-there (map listed_cell cells) (map (λ (c : Cell). c.info) cells) (own-listed cells) (shown-listed cells) old new made first k d in')
 
   pub good-listed : All (λ (c : NewCell). IsGoodFace c.face) (map (cell_at cells) new)
@@ -278,7 +279,7 @@ module _ (cells : List Cell) (old new : List Key) (keys : AreKeys (map (λ (c : 
       ∙ listed-distinct t
 
 -- the key of one more cell
-pub keys-more : (infos : List ChildInfo) (keys new : List Key) (n : ℕ) (x : Key) → AreKeys infos keys n → new ≡ keys ++ x ∷ [] → ((e : ChildInfo) → x ≡ key_of (get_or infos n e) n) → AreKeys infos new (n + 1)
+pub keys-more : (infos : List ChildInfo) (keys new : List ExportKey) (n : ℕ) (x : ExportKey) → AreKeys infos keys n → new ≡ keys ++ x ∷ [] → ((e : ChildInfo) → x ≡ export_key (get_or infos n e) n) → AreKeys infos new (n + 1)
 keys-more infos keys new n x before is made = record {
   counted = omega (arith, ap length is, length_push keys x, before.counted);
   made = λ k d e low.
@@ -287,6 +288,6 @@ keys-more infos keys new n x before is made = record {
       (λ lower. get_or_append_left keys (x ∷ []) d k (omega (arith, lower, before.counted)) ∙ before.made k d e lower)
       (λ last.
       let same : n ≡ k = omega (arith, low, last) in
-      get_or_push keys x d k (before.counted ∙ same) ∙ made e ∙ ap (λ m. key_of (get_or infos m e) m) same)
+      get_or_push keys x d k (before.counted ∙ same) ∙ made e ∙ ap (λ m. export_key (get_or infos m e) m) same)
       (cases_lt k n);
 }

@@ -10,10 +10,9 @@ ghost use Rattle.cd_gen.specs.Listing.{faces, faces_of};
 ghost use Rattle.cd_gen.specs.Keys.{AreKeys, listed_cell, cell_at};
 
 use crate::cell::Cell;
-use crate::key::{Key, sort};
 use cd_base::Memory;
 use cd_boc_write::write_bag;
-use cd_cell::{MOST_CELLS, NewCell};
+use cd_cell::{ExportKey, MOST_CELLS, NewCell, sort_keys};
 use cd_feed::Bytes;
 use std::alloc::{AllocError, Global};
 
@@ -47,12 +46,12 @@ fn in_order(alloc: Global, cells: &[Cell]) -> Result<Vec<NewCell>, AllocError>
         → IfOk result (λ listed. listed.items ≡ map (new_cell_of sha) (distinct_cells sha t)) }
 {
     let mut keys = keys_of(alloc, cells)?;
-    sort(&mut keys);
+    sort_keys(&mut keys);
     cells_of(alloc, cells, &keys)
 }
 
 /// The cells of these keys.
-fn cells_of(alloc: Global, cells: &[Cell], keys: &[Key]) -> Result<Vec<NewCell>, AllocError>
+fn cells_of(alloc: Global, cells: &[Cell], keys: &[ExportKey]) -> Result<Vec<NewCell>, AllocError>
     requires { All (λ key. key.number < length cells.now) keys.now }
     ensures { IfOk result (λ listed. listed.items ≡ map (cell_at cells.now) keys.now) }
 {
@@ -73,12 +72,12 @@ fn new_cell(cell: &Cell) -> NewCell
     }
 }
 
-fn keys_of(alloc: Global, cells: &[Cell]) -> Result<Vec<Key>, AllocError>
+fn keys_of(alloc: Global, cells: &[Cell]) -> Result<Vec<ExportKey>, AllocError>
     ensures { IfOk result (λ keys. AreKeys (map (λ c. c.info) cells.now) keys.items (length cells.now)) }
 {
     let mut keys = Vec::with_capacity(alloc, cells.len())?;
     for (number, cell) in cells.iter().enumerate() {
-        keys.push(Key::of(&cell.info, number))?;
+        keys.push(ExportKey::of(&cell.info, number))?;
     }
     Ok(keys)
 }

@@ -6,7 +6,6 @@ mod cells;
 mod chain;
 mod export;
 mod generator;
-mod key;
 mod names;
 mod phases;
 mod states;

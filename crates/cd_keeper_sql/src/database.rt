@@ -108,8 +108,8 @@ fn put_row<S: Alter>(
     key: &[u8],
     value: &[u8],
 ) -> Result<(), KeepFault> {
-    if run(transaction, &table.update, key, value)? == 0 {
-        run(transaction, &table.insert, key, value)?;
+    if run(transaction, &table.writing.update, key, value)? == 0 {
+        run(transaction, &table.writing.insert, key, value)?;
     }
     Ok(())
 }
@@ -132,7 +132,7 @@ fn drop_row<S: Alter>(
     table: &TableStatements,
     key: &[u8],
 ) -> Result<(), KeepFault> {
-    match transaction.execute_prepared(&table.drop_row, params![key]) {
+    match transaction.execute_prepared(&table.writing.drop_row, params![key]) {
         Ok(_) => Ok(()),
         Err(error) => Err(fault_of(error)),
     }

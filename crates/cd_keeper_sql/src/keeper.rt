@@ -110,7 +110,9 @@ impl<C: Database> Keeper for SqlKeeperOver<C> {
 
     fn get_cell(&mut self, key: &Hash256) -> Result<Option<Vec<u8>>, KeepFault> {
         self.reads = self.reads.saturating_add(1);
-        let found = self.database.value(&self.statements.cells.get, &key.0);
+        let found = self
+            .database
+            .value(&self.statements.cells.reading.get, &key.0);
         count_fault(&mut self.faults, &found);
         found
     }
@@ -122,8 +124,8 @@ impl<C: Database> Keeper for SqlKeeperOver<C> {
         self.reads = self.reads.saturating_add(1);
         let table = &self.statements.cells;
         let row = match &after {
-            Some(key) => self.database.next_row(&table.next, &key.0),
-            None => self.database.first_row(&table.first),
+            Some(key) => self.database.next_row(&table.reading.next, &key.0),
+            None => self.database.first_row(&table.reading.first),
         };
         let found = cell_of(&after, row);
         count_fault(&mut self.faults, &found);
@@ -132,7 +134,7 @@ impl<C: Database> Keeper for SqlKeeperOver<C> {
 
     fn get_desc(&mut self, key: &[u8; 80]) -> Result<Option<Vec<u8>>, KeepFault> {
         self.reads = self.reads.saturating_add(1);
-        let found = self.database.value(&self.statements.descs.get, key);
+        let found = self.database.value(&self.statements.descs.reading.get, key);
         count_fault(&mut self.faults, &found);
         found
     }
@@ -144,8 +146,8 @@ impl<C: Database> Keeper for SqlKeeperOver<C> {
         self.reads = self.reads.saturating_add(1);
         let table = &self.statements.descs;
         let row = match &after {
-            Some(key) => self.database.next_row(&table.next, key),
-            None => self.database.first_row(&table.first),
+            Some(key) => self.database.next_row(&table.reading.next, key),
+            None => self.database.first_row(&table.reading.first),
         };
         let found = desc_of(&after, row);
         count_fault(&mut self.faults, &found);

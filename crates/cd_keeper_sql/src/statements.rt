@@ -6,15 +6,55 @@ const MAKE_TABLES: &str =
     "CREATE TABLE IF NOT EXISTS cells (key BLOB PRIMARY KEY, record BLOB NOT NULL);
 CREATE TABLE IF NOT EXISTS descs (key BLOB PRIMARY KEY, value BLOB NOT NULL)";
 
-/// The statements over one table, prepared once.
+/// The texts of the statements over one table.
+struct TableTexts {
+    get: &'static str,
+    first: &'static str,
+    next: &'static str,
+    update: &'static str,
+    insert: &'static str,
+    drop_row: &'static str,
+}
+
+const CELLS: TableTexts = TableTexts {
+    get: "SELECT record FROM cells WHERE key = ?1",
+    first: "SELECT key, record FROM cells ORDER BY key LIMIT 1",
+    next: "SELECT key, record FROM cells WHERE key > ?1 ORDER BY key LIMIT 1",
+    update: "UPDATE cells SET record = ?2 WHERE key = ?1",
+    insert: "INSERT INTO cells (key, record) VALUES (?1, ?2)",
+    drop_row: "DELETE FROM cells WHERE key = ?1",
+};
+
+const DESCS: TableTexts = TableTexts {
+    get: "SELECT value FROM descs WHERE key = ?1",
+    first: "SELECT key, value FROM descs ORDER BY key LIMIT 1",
+    next: "SELECT key, value FROM descs WHERE key > ?1 ORDER BY key LIMIT 1",
+    update: "UPDATE descs SET value = ?2 WHERE key = ?1",
+    insert: "INSERT INTO descs (key, value) VALUES (?1, ?2)",
+    drop_row: "DELETE FROM descs WHERE key = ?1",
+};
+
+/// The statements that read a table.
 #[derive(Drop)]
-pub struct TableStatements {
+pub struct Reading {
     pub get: Statement,
     pub first: Statement,
     pub next: Statement,
+}
+
+/// The statements that change a table.
+#[derive(Drop)]
+pub struct Writing {
     pub update: Statement,
     pub insert: Statement,
     pub drop_row: Statement,
+}
+
+/// The statements over one table, prepared once.
+#[derive(Drop)]
+pub struct TableStatements {
+    pub reading: Reading,
+    pub writing: Writing,
 }
 
 /// The statements over the tables of cells and of descriptions.
@@ -39,42 +79,37 @@ fn prepare<S: Alter>(database: &mut Connection<S>, text: &str) -> Result<Stateme
     }
 }
 
-fn statements_of_cells<S: Alter>(
+fn prepare_reading<S: Alter>(
     database: &mut Connection<S>,
-) -> Result<TableStatements, KeepFault> {
-    Ok(TableStatements {
-        get: prepare(database, "SELECT record FROM cells WHERE key = ?1")?,
-        first: prepare(
-            database,
-            "SELECT key, record FROM cells ORDER BY key LIMIT 1",
-        )?,
-        next: prepare(
-            database,
-            "SELECT key, record FROM cells WHERE key > ?1 ORDER BY key LIMIT 1",
-        )?,
-        update: prepare(database, "UPDATE cells SET record = ?2 WHERE key = ?1")?,
-        insert: prepare(database, "INSERT INTO cells (key, record) VALUES (?1, ?2)")?,
-        drop_row: prepare(database, "DELETE FROM cells WHERE key = ?1")?,
+    texts: &TableTexts,
+) -> Result<Reading, KeepFault> {
+    let get = prepare(database, texts.get)?;
+    let first = prepare(database, texts.first)?;
+    let next = prepare(database, texts.next)?;
+    Ok(Reading { get, first, next })
+}
+
+fn prepare_writing<S: Alter>(
+    database: &mut Connection<S>,
+    texts: &TableTexts,
+) -> Result<Writing, KeepFault> {
+    let update = prepare(database, texts.update)?;
+    let insert = prepare(database, texts.insert)?;
+    let drop_row = prepare(database, texts.drop_row)?;
+    Ok(Writing {
+        update,
+        insert,
+        drop_row,
     })
 }
 
-fn statements_of_descs<S: Alter>(
+fn prepare_table<S: Alter>(
     database: &mut Connection<S>,
+    texts: &TableTexts,
 ) -> Result<TableStatements, KeepFault> {
-    Ok(TableStatements {
-        get: prepare(database, "SELECT value FROM descs WHERE key = ?1")?,
-        first: prepare(
-            database,
-            "SELECT key, value FROM descs ORDER BY key LIMIT 1",
-        )?,
-        next: prepare(
-            database,
-            "SELECT key, value FROM descs WHERE key > ?1 ORDER BY key LIMIT 1",
-        )?,
-        update: prepare(database, "UPDATE descs SET value = ?2 WHERE key = ?1")?,
-        insert: prepare(database, "INSERT INTO descs (key, value) VALUES (?1, ?2)")?,
-        drop_row: prepare(database, "DELETE FROM descs WHERE key = ?1")?,
-    })
+    let reading = prepare_reading(database, texts)?;
+    let writing = prepare_writing(database, texts)?;
+    Ok(TableStatements { reading, writing })
 }
 
 impl Statements {
@@ -84,9 +119,8 @@ impl Statements {
             Ok(()) => {}
             Err(error) => return Err(fault_of(error)),
         }
-        Ok(Statements {
-            cells: statements_of_cells(database)?,
-            descs: statements_of_descs(database)?,
-        })
+        let cells = prepare_table(database, &CELLS)?;
+        let descs = prepare_table(database, &DESCS)?;
+        Ok(Statements { cells, descs })
     }
 }

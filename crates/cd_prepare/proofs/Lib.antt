@@ -1,4 +1,3 @@
-pub mod KeyLaws
 pub mod ReachLaws
 pub mod ListLaws
 pub mod StateLaws

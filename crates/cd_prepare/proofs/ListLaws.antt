@@ -21,10 +21,11 @@ use Rattle.cd_cell.specs.Listings.{new_cell_of}
 use Rattle.cd_cell.proofs.Subtrees.{Contains-first, Contains-later, Contains-cases, Contains-nil, Contains-map, Contains-mapped}
 use Rattle.cd_cell.proofs.BagLaws.{face_of-bag, info_of-bag, same-bag, well_formed-bag, clash_free-bag}
 use Rattle.cd_cell.proofs.ExportOrder.{export_cmp-total, distinct_cells-only}
-use Rattle.cd_prepare.specs.declared.key.EntryKey.{EntryKey}
-use Rattle.cd_prepare.specs.Keys.{rank_cmp, cell_of_key, AreSorted}
+use Rattle.cd_cell.specs.declared.export_key.ExportKey.{ExportKey}
+use Rattle.cd_cell.specs.Keys.{rank_cmp, AreFirst}
+use Rattle.cd_prepare.specs.Keys.{cell_of_key}
 use Rattle.cd_prepare.specs.Reached.{entry_key_at, AreReached}
-use Rattle.cd_prepare.proofs.KeyLaws.{rank_cmp-total}
+use Rattle.cd_cell.proofs.KeyLaws.{rank_cmp-total}
 
 map-listed : {A B : Type 0} (f g : A → B) (xs : List A) → ((x : A) → Contains xs x → f x ≡ g x) → map f xs ≡ map g xs
 map-listed f g [] same = refl
@@ -67,30 +68,30 @@ module _ (H : List ℕ → Hash256) (cells : List FaceView) (refs : List (List �
       clash_free-bag H cells refs roots bag (cell root ∷ [])
       (λ t h. (root, in', ⊎_elim (λ same. same) (λ none. absurd (Contains-nil t none)) (Contains-cases (cell root) [] t h)))
 
-  module _ (old new : List EntryKey) (reached : AreReached H cells refs root old) (sorted : AreSorted old new) where
-    abbrev tree_of : EntryKey → Tree
+  module _ (old new : List ExportKey) (reached : AreReached H cells refs root old) (sorted : AreFirst old new) where
+    abbrev tree_of : ExportKey → Tree
     tree_of key = cell key.number
 
-    keyed : (key : EntryKey) → Contains new key → key ≡ entry_key_at H cells refs key.number
+    keyed : (key : ExportKey) → Contains new key → key ≡ entry_key_at H cells refs key.number
     keyed key h = reached.keyed key (sorted.within key h)
 
-    there : (key : EntryKey) → Contains new key → key.number < length cells
+    there : (key : ExportKey) → Contains new key → key.number < length cells
     there key h = reached.there key (sorted.within key h)
 
-    pub all-there : All (λ (key : EntryKey). key.number < length cells) new
+    pub all-there : All (λ (key : ExportKey). key.number < length cells) new
     all-there k d in-new = there (get_or new k d) (Contains-get_or new k d in-new)
 
-    low : (key : EntryKey) → Contains new key → height_of H (tree_of key) ≤ 1024
+    low : (key : ExportKey) → Contains new key → height_of H (tree_of key) ≤ 1024
     low key h =
         let good = bag.good key.number (there key h) in
         omega (arith, good.fit.depths 3 (omega arith), ap height_of_info (info_of-bag H cells refs roots bag key.number))
 
-    ranked : (a b : EntryKey) → Contains new a → Contains new b → rank_cmp a.rank b.rank ≡ export_cmp H (tree_of a) (tree_of b)
+    ranked : (a b : ExportKey) → Contains new a → Contains new b → rank_cmp a.rank b.rank ≡ export_cmp H (tree_of a) (tree_of b)
     ranked a b in-a in-b =
-        ap₂ rank_cmp (ap (λ (k : EntryKey). k.rank) (keyed a in-a)) (ap (λ (k : EntryKey). k.rank) (keyed b in-b))
+        ap₂ rank_cmp (ap (λ (k : ExportKey). k.rank) (keyed a in-a)) (ap (λ (k : ExportKey). k.rank) (keyed b in-b))
         ∙ ap (λ o. ordering_then o (hash_cmp (rep_of H (tree_of a)) (rep_of H (tree_of b)))) (turned-heights (height_of H (tree_of a)) (height_of H (tree_of b)) (low a in-a) (low b in-b))
 
-    abbrev no_key : EntryKey
+    abbrev no_key : ExportKey
     no_key = record { rank = record { lowness = 0; hash = no_hash }; number = 0 }
 
     ordered-trees : AllPairs (λ a b. export_cmp H a b ≡ Less) (map tree_of new)
@@ -111,13 +112,13 @@ module _ (H : List ℕ → Hash256) (cells : List FaceView) (refs : List (List �
       whole = λ s h.
           let found = reached.whole s h in
           let kept = sorted.whole (entry_key_at H cells refs found.0) found.1 in
-          let rank = ap (λ (k : EntryKey). k.rank) (sym (keyed kept.0 kept.1)) ∙ kept.2 in
+          let rank = ap (λ (k : ExportKey). k.rank) (sym (keyed kept.0 kept.1)) ∙ kept.2 in
           let same = same-bag H cells refs roots bag kept.0.number found.0 (there kept.0 kept.1) (reached.there (entry_key_at H cells refs found.0) found.1) (ap (λ r. r.hash) rank) in
           (tree_of kept.0, Contains-mapped tree_of new kept.0 kept.1, ap (λ u. export_cmp H u (tree_of kept.0)) (sym found.2 ∙ sym same) ∙ tied_itself (export_cmp-total H) (tree_of kept.0));
     }
 
-    cell-is : (key : EntryKey) → Contains new key → cell_of_key cells key ≡ new_cell_of H (tree_of key)
-    cell-is key h = ap₂ (λ x f. let c : NewCell = record { hash = x; face = f } in c) (ap (λ (k : EntryKey). k.rank.hash) (keyed key h)) (sym (face_of-bag H cells refs roots bag key.number))
+    cell-is : (key : ExportKey) → Contains new key → cell_of_key cells key ≡ new_cell_of H (tree_of key)
+    cell-is key h = ap₂ (λ x f. let c : NewCell = record { hash = x; face = f } in c) (ap (λ (k : ExportKey). k.rank.hash) (keyed key h)) (sym (face_of-bag H cells refs roots bag key.number))
 
     -- the cells of the keys are all cells of the tree
     pub listed_cells : map (cell_of_key cells) new ≡ map (new_cell_of H) (distinct_cells H (cell root))
@@ -126,17 +127,17 @@ module _ (H : List ℕ → Hash256) (cells : List FaceView) (refs : List (List �
         ∙ sym (map-map (new_cell_of H) tree_of new)
         ∙ ap (map (new_cell_of H)) (distinct_cells-only H (cell root) clash_free-root (map tree_of new) are-distinct)
 
-    number_at : (i : ℕ) → i < length new → get_or (map (λ (k : EntryKey). k.number) new) i 0 ≡ (get_or new i no_key).number
-    number_at i in-new = get_or-map (λ (k : EntryKey). k.number) new i no_key 0 in-new
+    number_at : (i : ℕ) → i < length new → get_or (map (λ (k : ExportKey). k.number) new) i 0 ≡ (get_or new i no_key).number
+    number_at i in-new = get_or-map (λ (k : ExportKey). k.number) new i no_key 0 in-new
 
     differ : (i j : ℕ) → i < j → j < length new → (get_or new i no_key).number ≢ (get_or new j no_key).number
     differ i j before in-new same =
         let a = get_or new i no_key in
         let b = get_or new j no_key in
         let rank : a.rank ≡ b.rank =
-        ap (λ (k : EntryKey). k.rank) (keyed a (Contains-get_or new i no_key (omega arith)))
-        ∙ ap (λ n. let k : EntryKey = entry_key_at H cells refs n in k.rank) same
-        ∙ sym (ap (λ (k : EntryKey). k.rank) (keyed b (Contains-get_or new j no_key in-new))) in
+        ap (λ (k : ExportKey). k.rank) (keyed a (Contains-get_or new i no_key (omega arith)))
+        ∙ ap (λ n. let k : ExportKey = entry_key_at H cells refs n in k.rank) same
+        ∙ sym (ap (λ (k : ExportKey). k.rank) (keyed b (Contains-get_or new j no_key in-new))) in
         let less : rank_cmp a.rank b.rank ≡ Less = sorted.ordered i j no_key before in-new in
         let equal : rank_cmp a.rank b.rank ≡ Equal = ap (λ r. rank_cmp r b.rank) rank ∙ tied_itself rank_cmp-total b.rank in
         absurd cc
@@ -144,8 +145,8 @@ module _ (H : List ℕ → Hash256) (cells : List FaceView) (refs : List (List �
     -- each is an entry, and none stands there twice
     pub few-listed : length new ≤ length cells
     few-listed =
-        let numbers : List ℕ = map (λ (k : EntryKey). k.number) new in
-        let counted : length numbers ≡ length new = length-map new (λ (k : EntryKey). k.number) in
+        let numbers : List ℕ = map (λ (k : ExportKey). k.number) new in
+        let counted : length numbers ≡ length new = length-map new (λ (k : ExportKey). k.number) in
         let distinct : IsDistinct eqb numbers = distinct-numbers numbers (λ i j before in'. λ same. differ i j before (omega arith) (sym (number_at i (omega arith)) ∙ same ∙ number_at j (omega arith))) in
         let low : (i : ℕ) → i < length numbers → get_or numbers i 0 < length cells = λ i in'. rw (number_at i (omega arith)) (there (get_or new i no_key) (Contains-get_or new i no_key (omega arith))) in
         omega (arith, counted, length-le_from_distinct_below numbers (length cells) distinct (λ q h. below-each numbers (length cells) q low h))

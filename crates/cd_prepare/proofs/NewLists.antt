@@ -26,8 +26,9 @@ use Rattle.cd_cell.proofs.Subtrees.{Contains-mapped}
 use Rattle.cd_cell.proofs.Heights.{height_of_face-kid}
 use Rattle.cd_cell.proofs.Distinct.{before-rising, one_place-rising}
 use Rattle.cd_cell.proofs.ExportOrder.{hash_cmp-total}
-use Rattle.cd_prepare.specs.declared.key.EntryKey.{EntryKey}
-use Rattle.cd_prepare.specs.Keys.{rank_cmp, entry_key, cell_of_key, AreSorted}
+use Rattle.cd_cell.specs.declared.export_key.ExportKey.{ExportKey}
+use Rattle.cd_cell.specs.Keys.{rank_cmp, export_key, AreFirst}
+use Rattle.cd_prepare.specs.Keys.{cell_of_key}
 use Rattle.cd_prepare.specs.NewCells.{AreKeys, new_cell_with, AreListed}
 use Rattle.cd_prepare.proofs.ListLaws.{turned-heights, height_higher}
 
@@ -41,50 +42,50 @@ module _ (H : List ℕ → Hash256) (faces : List FaceView) where
 
   -- ---- sorted keys
 
-  module _ (good : (f : FaceView) → Contains faces f → IsGoodFace f) (infos : List ChildInfo) (shown : infos ≡ map (info_of_face H) faces) (old new : List EntryKey) (are : AreKeys infos old (length infos)) (sorted : AreSorted old new) where
+  module _ (good : (f : FaceView) → Contains faces f → IsGoodFace f) (infos : List ChildInfo) (shown : infos ≡ map (info_of_face H) faces) (old new : List ExportKey) (are : AreKeys infos old (length infos)) (sorted : AreFirst old new) where
     long : length infos ≡ length faces
     long = ap length shown ∙ length-map faces (info_of_face H)
 
-    abbrev entry_key_at : ℕ → EntryKey
-    entry_key_at k = entry_key (info_of_face H (face_at faces k)) k
+    abbrev entry_key_at : ℕ → ExportKey
+    entry_key_at k = export_key (info_of_face H (face_at faces k)) k
 
-    made-at : (k : ℕ) (d : EntryKey) → k < length faces → get_or old k d ≡ entry_key_at k
+    made-at : (k : ℕ) (d : ExportKey) → k < length faces → get_or old k d ≡ entry_key_at k
     made-at k d in' =
         are.made k d (omega (arith, long))
-        ∙ ap (λ (i : ChildInfo). entry_key i k) (ap (λ is. get_or is k no_info) shown ∙ get_or-map (info_of_face H) faces k no_face no_info in')
+        ∙ ap (λ (i : ChildInfo). export_key i k) (ap (λ is. get_or is k no_info) shown ∙ get_or-map (info_of_face H) faces k no_face no_info in')
 
-    old-key : (key : EntryKey) → Contains old key → (key.number < length faces) × (key ≡ entry_key_at key.number)
+    old-key : (key : ExportKey) → Contains old key → (key.number < length faces) × (key ≡ entry_key_at key.number)
     old-key key h =
         let k = h.0 in
         let in' : k < length faces = omega (arith, h.1, are.counted, long) in
         let is : key ≡ entry_key_at k = sym h.2 ∙ made-at k key in' in
-        let number : key.number ≡ k = ap (λ (x : EntryKey). x.number) is in
+        let number : key.number ≡ k = ap (λ (x : ExportKey). x.number) is in
         (omega (arith, number, in'), is ∙ ap entry_key_at (sym number))
 
-    abbrev face_of : EntryKey → FaceView
+    abbrev face_of : ExportKey → FaceView
     face_of key = face_at faces key.number
 
-    face-in : (key : EntryKey) → Contains new key → Contains faces (face_of key)
+    face-in : (key : ExportKey) → Contains new key → Contains faces (face_of key)
     face-in key h = Contains-get_or faces key.number no_face (old-key key (sorted.within key h)).0
 
-    pub keys-there : All (λ (key : EntryKey). key.number < length faces) new
+    pub keys-there : All (λ (key : ExportKey). key.number < length faces) new
     keys-there k d in' = (old-key (get_or new k d) (sorted.within (get_or new k d) (Contains-get_or new k d in'))).0
 
-    cell-is : (key : EntryKey) → Contains new key → cell_of_key faces key ≡ new_cell_with H (face_of key)
-    cell-is key h = ap (λ x. let c : NewCell = record { hash = x; face = face_of key } in c) (ap (λ (k : EntryKey). k.rank.hash) (old-key key (sorted.within key h)).1)
+    cell-is : (key : ExportKey) → Contains new key → cell_of_key faces key ≡ new_cell_with H (face_of key)
+    cell-is key h = ap (λ x. let c : NewCell = record { hash = x; face = face_of key } in c) (ap (λ (k : ExportKey). k.rank.hash) (old-key key (sorted.within key h)).1)
 
     low : (f : FaceView) → Contains faces f → height_of_face f ≤ 1024
     low f h = (good f h).fit.depths 3 (omega arith)
 
-    ranked : (a b : EntryKey) → Contains new a → Contains new b → rank_cmp a.rank b.rank ≡ listing_cmp (cell_of_key faces a) (cell_of_key faces b)
+    ranked : (a b : ExportKey) → Contains new a → Contains new b → rank_cmp a.rank b.rank ≡ listing_cmp (cell_of_key faces a) (cell_of_key faces b)
     ranked a b in-a in-b =
         let f = face_of a in
         let g = face_of b in
-        ap₂ rank_cmp (ap (λ (k : EntryKey). k.rank) (old-key a (sorted.within a in-a)).1) (ap (λ (k : EntryKey). k.rank) (old-key b (sorted.within b in-b)).1)
+        ap₂ rank_cmp (ap (λ (k : ExportKey). k.rank) (old-key a (sorted.within a in-a)).1) (ap (λ (k : ExportKey). k.rank) (old-key b (sorted.within b in-b)).1)
         ∙ ap (λ o. ordering_then o (hash_cmp (rep_of_face H f) (rep_of_face H g))) (turned-heights (height_of_face f) (height_of_face g) (low f (face-in a in-a)) (low g (face-in b in-b)))
         ∙ ap₂ listing_cmp (sym (cell-is a in-a)) (sym (cell-is b in-b))
 
-    abbrev no_key : EntryKey
+    abbrev no_key : ExportKey
     no_key = record { rank = record { lowness = 0; hash = no_hash }; number = 0 }
 
     pub AreListed-sorted : AreClear → AreListed H faces (map (cell_of_key faces) new)
@@ -109,7 +110,7 @@ module _ (H : List ℕ → Hash256) (faces : List FaceView) where
           let kept = sorted.whole (entry_key_at k) in-old in
           let key = kept.0 in
           let reps : rep_of_face H (face_of key) ≡ rep_of_face H f =
-          ap (λ (x : EntryKey). x.rank.hash) (sym (old-key key (sorted.within key kept.1)).1) ∙ ap (λ r. r.hash) kept.2 ∙ ap (rep_of_face H) at
+          ap (λ (x : ExportKey). x.rank.hash) (sym (old-key key (sorted.within key kept.1)).1) ∙ ap (λ r. r.hash) kept.2 ∙ ap (rep_of_face H) at
           in
           let same = clear (face_of key) f (face-in key kept.1) h reps in
           subst (Contains (map (cell_of_key faces) new)) (cell-is key kept.1 ∙ ap (new_cell_with H) same) (Contains-mapped (cell_of_key faces) new key kept.1);

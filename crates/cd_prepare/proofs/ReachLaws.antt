@@ -11,8 +11,8 @@ use Rattle.cd_cell.specs.Tree.{Tree, children, subtrees, info_of}
 use Rattle.cd_cell.specs.Bags.{bag_cell, face_at, ref_at, IsBag}
 use Rattle.cd_cell.proofs.Subtrees.{Contains-first, Contains-cases, Contains-nil, Contains-map, Contains-mapped, subtree-itself, kids-face_of, subtrees-subtree, child-is-subtree, subtrees-cases}
 use Rattle.cd_cell.proofs.BagLaws.{children-bag, face_of-bag, info_of-bag}
-use Rattle.cd_prepare.specs.declared.key.EntryKey.{EntryKey}
-use Rattle.cd_prepare.specs.Keys.{entry_key}
+use Rattle.cd_cell.specs.declared.export_key.ExportKey.{ExportKey}
+use Rattle.cd_cell.specs.Keys.{export_key}
 use Rattle.cd_prepare.specs.Reached.{is_marked, keys_with, entry_key_at, AreReached}
 
 -- ---- marks and keys
@@ -44,17 +44,17 @@ marked-kept marks r k h =
     (λ apart. get_or-set_other marks r k true false (λ same. ⊎_elim (λ l. omega arith) (λ l. omega arith) apart) ∙ h)
     (cases_order k r)
 
-keys_with-kept : (marks : List Bool) (keys : List EntryKey) (key x : EntryKey) → Contains keys x → Contains (keys_with marks keys key) x
+keys_with-kept : (marks : List Bool) (keys : List ExportKey) (key x : ExportKey) → Contains keys x → Contains (keys_with marks keys key) x
 keys_with-kept marks keys key x h = elim (is_marked marks key.number) as (λ b. Contains (cond b keys (keys ++ key ∷ [])) x) [ true ↦ h | false ↦ Contains-append_left keys (key ∷ []) x h ]
 
-keys_with-new : (marks : List Bool) (keys : List EntryKey) (key : EntryKey) → (is_marked marks key.number ≡ true → Contains keys key) → Contains (keys_with marks keys key) key
+keys_with-new : (marks : List Bool) (keys : List ExportKey) (key : ExportKey) → (is_marked marks key.number ≡ true → Contains keys key) → Contains (keys_with marks keys key) key
 keys_with-new marks keys key old = go (is_marked marks key.number) old
   where
     go : (b : Bool) → (b ≡ true → Contains keys key) → Contains (cond b keys (keys ++ key ∷ [])) key
     go true old = old refl
     go false old = Contains-append_right keys (key ∷ []) key (Contains-first key [])
 
-keys_with-cases : (marks : List Bool) (keys : List EntryKey) (key x : EntryKey) → Contains (keys_with marks keys key) x → (key ≡ x) ⊎ Contains keys x
+keys_with-cases : (marks : List Bool) (keys : List ExportKey) (key x : ExportKey) → Contains (keys_with marks keys key) x → (key ≡ x) ⊎ Contains keys x
 keys_with-cases marks keys key x h = go (is_marked marks key.number) h
   where
     go : (b : Bool) → Contains (cond b keys (keys ++ key ∷ [])) x → (key ≡ x) ⊎ Contains keys x
@@ -69,18 +69,18 @@ module _ (H : List ℕ → Hash256) (cells : List FaceView) (refs : List (List �
 
   -- the root is marked, and with each marked entry before one the entries that it names, and these first ones of that
   -- one; the marked entries have their keys, and their cells are below the root
-  pub record IsWalked (done part : ℕ) (marks : List Bool) (keys : List EntryKey) : Type 0 where
+  pub record IsWalked (done part : ℕ) (marks : List Bool) (keys : List ExportKey) : Type 0 where
     pub long : length marks ≡ length cells
     pub rooted : is_marked marks root ≡ true
     pub after : (k : ℕ) → is_marked marks k ≡ true → root ≤ k
     pub held : (k : ℕ) → is_marked marks k ≡ true → Contains keys (entry_key_at H cells refs k)
-    pub keyed : (key : EntryKey) → Contains keys key → key ≡ entry_key_at H cells refs key.number
-    pub marked : (key : EntryKey) → Contains keys key → is_marked marks key.number ≡ true
+    pub keyed : (key : ExportKey) → Contains keys key → key ≡ entry_key_at H cells refs key.number
+    pub marked : (key : ExportKey) → Contains keys key → is_marked marks key.number ≡ true
     pub below : (k : ℕ) → is_marked marks k ≡ true → Contains (subtrees (cell root)) (cell k)
     pub closed : (k p : ℕ) → k < done → is_marked marks k ≡ true → p < length (face_at cells k).kids → is_marked marks (ref_at refs k p) ≡ true
     pub here : (p : ℕ) → p < part → is_marked marks (ref_at refs done p) ≡ true
 
-  pub IsWalked-first : (marks' : List Bool) (keys' : List EntryKey) (info : ChildInfo) → root < length cells → info ≡ info_of H (cell root) → marks' ≡ slice_set (replicate (length cells) false) root true → keys' ≡ keys_with (replicate (length cells) false) [] (entry_key info root) → IsWalked root 0 marks' keys'
+  pub IsWalked-first : (marks' : List Bool) (keys' : List ExportKey) (info : ChildInfo) → root < length cells → info ≡ info_of H (cell root) → marks' ≡ slice_set (replicate (length cells) false) root true → keys' ≡ keys_with (replicate (length cells) false) [] (export_key info root) → IsWalked root 0 marks' keys'
   IsWalked-first marks' keys' info in' shown marks_are keys_are =
       let none = replicate (length cells) false in
       let room : root < length none = omega (arith, length-replicate (length cells) false) in
@@ -90,9 +90,9 @@ module _ (H : List ℕ → Hash256) (cells : List FaceView) (refs : List (List �
       (marked-cases none root k (subst (λ ms. is_marked ms k ≡ true) marks_are h))
       in
       let first : keys' ≡ entry_key_at H cells refs root ∷ [] =
-      keys_are ∙ ap (λ b. cond b [] (entry_key info root ∷ [])) (marked-none (length cells) root) ∙ ap (λ (x : ChildInfo). entry_key x root ∷ []) shown
+      keys_are ∙ ap (λ b. cond b [] (export_key info root ∷ [])) (marked-none (length cells) root) ∙ ap (λ (x : ChildInfo). export_key x root ∷ []) shown
       in
-      let one : (key : EntryKey) → Contains keys' key → entry_key_at H cells refs root ≡ key =
+      let one : (key : ExportKey) → Contains keys' key → entry_key_at H cells refs root ≡ key =
       λ key h. ⊎_elim (λ same. same) (λ later. absurd (Contains-nil key later)) (Contains-cases (entry_key_at H cells refs root) [] key (subst (λ ks. Contains ks key) first h))
       in
       let rooted : is_marked marks' root ≡ true = ap (λ ms. is_marked ms root) marks_are ∙ marked-set none root room in
@@ -104,15 +104,15 @@ module _ (H : List ℕ → Hash256) (cells : List FaceView) (refs : List (List �
             λ k h.
             subst (λ n. Contains keys' (entry_key_at H cells refs n)) (sym (only k h))
             (subst (λ ks. Contains ks (entry_key_at H cells refs root)) (sym first) (Contains-first (entry_key_at H cells refs root) []));
-        keyed = λ key h. let same = one key h in sym same ∙ ap (entry_key_at H cells refs) (ap (λ (x : EntryKey). x.number) same);
-        marked = λ key h. subst (λ n. is_marked marks' n ≡ true) (ap (λ (x : EntryKey). x.number) (one key h)) rooted;
+        keyed = λ key h. let same = one key h in sym same ∙ ap (entry_key_at H cells refs) (ap (λ (x : ExportKey). x.number) same);
+        marked = λ key h. subst (λ n. is_marked marks' n ≡ true) (ap (λ (x : ExportKey). x.number) (one key h)) rooted;
         below = λ k h. subst (λ n. Contains (subtrees (cell root)) (cell n)) (sym (only k h)) (subtree-itself (cell root));
         closed = λ k p low h in-kids. let same = only k h in absurd (omega arith);
         here = λ p low. absurd (omega arith);
       }
 
   -- an entry is past, where it isn't marked or all that it names is
-  IsWalked-past : (done part : ℕ) (marks : List Bool) (keys : List EntryKey) → ((p : ℕ) → is_marked marks done ≡ true → p < length (face_at cells done).kids → is_marked marks (ref_at refs done p) ≡ true) → IsWalked done part marks keys → IsWalked (done + 1) 0 marks keys
+  IsWalked-past : (done part : ℕ) (marks : List Bool) (keys : List ExportKey) → ((p : ℕ) → is_marked marks done ≡ true → p < length (face_at cells done).kids → is_marked marks (ref_at refs done p) ≡ true) → IsWalked done part marks keys → IsWalked (done + 1) 0 marks keys
   IsWalked-past done part marks keys named walked =
       record {
         long = walked.long;
@@ -134,10 +134,10 @@ module _ (H : List ℕ → Hash256) (cells : List FaceView) (refs : List (List �
         here = λ p low. absurd (omega arith);
       }
 
-  pub IsWalked-next : (done part : ℕ) (marks : List Bool) (keys : List EntryKey) → length (face_at cells done).kids ≤ part → IsWalked done part marks keys → IsWalked (done + 1) 0 marks keys
+  pub IsWalked-next : (done part : ℕ) (marks : List Bool) (keys : List ExportKey) → length (face_at cells done).kids ≤ part → IsWalked done part marks keys → IsWalked (done + 1) 0 marks keys
   IsWalked-next done part marks keys all walked = IsWalked-past done part marks keys (λ p h in-kids. walked.here p (omega (arith, in-kids))) walked
 
-  pub IsWalked-skip : (done : ℕ) (marks : List Bool) (keys : List EntryKey) → is_marked marks done ≡ false → IsWalked done 0 marks keys → IsWalked (done + 1) 0 marks keys
+  pub IsWalked-skip : (done : ℕ) (marks : List Bool) (keys : List ExportKey) → is_marked marks done ≡ false → IsWalked done 0 marks keys → IsWalked (done + 1) 0 marks keys
   IsWalked-skip done marks keys none walked = IsWalked-past done 0 marks keys (λ p h in-kids. absurd (true≢false (sym h ∙ none))) walked
 
   module _ (roots : List ℕ) (bag : IsBag H cells refs roots) where
@@ -169,20 +169,20 @@ module _ (H : List ℕ → Hash256) (cells : List FaceView) (refs : List (List �
         in
         (p, in-kids, ap cell (sym number) ∙ named.2)
 
-    pub IsWalked-more : (done part : ℕ) (marks marks' : List Bool) (keys keys' : List EntryKey) (info : ChildInfo) → done < length cells → part < length (face_at cells done).kids → is_marked marks done ≡ true → info ≡ kid_at (face_at cells done) part → marks' ≡ slice_set marks (ref_at refs done part) true → keys' ≡ keys_with marks keys (entry_key info (ref_at refs done part)) → IsWalked done part marks keys → IsWalked done (part + 1) marks' keys' × (is_marked marks' done ≡ true)
+    pub IsWalked-more : (done part : ℕ) (marks marks' : List Bool) (keys keys' : List ExportKey) (info : ChildInfo) → done < length cells → part < length (face_at cells done).kids → is_marked marks done ≡ true → info ≡ kid_at (face_at cells done) part → marks' ≡ slice_set marks (ref_at refs done part) true → keys' ≡ keys_with marks keys (export_key info (ref_at refs done part)) → IsWalked done part marks keys → IsWalked done (part + 1) marks' keys' × (is_marked marks' done ≡ true)
     IsWalked-more done part marks marks' keys keys' info in' in-kids mine shown marks_are keys_are walked =
         let r = ref_at refs done part in
         let r_later : done < r = bag.later done part in' in-kids in
         let room : r < length marks = omega (arith, bag.there done part in' in-kids, walked.long) in
         let shows : info ≡ info_of H (cell r) = shown ∙ bag.shown done part in' in-kids ∙ sym (info_of-bag H cells refs roots bag r) in
-        let added : keys' ≡ keys_with marks keys (entry_key_at H cells refs r) = keys_are ∙ ap (λ (x : ChildInfo). keys_with marks keys (entry_key x r)) shows in
+        let added : keys' ≡ keys_with marks keys (entry_key_at H cells refs r) = keys_are ∙ ap (λ (x : ChildInfo). keys_with marks keys (export_key x r)) shows in
         let new : is_marked marks' r ≡ true = ap (λ ms. is_marked ms r) marks_are ∙ marked-set marks r room in
         let kept : (k : ℕ) → is_marked marks k ≡ true → is_marked marks' k ≡ true = λ k h. ap (λ ms. is_marked ms k) marks_are ∙ marked-kept marks r k h in
         let cases : (k : ℕ) → is_marked marks' k ≡ true → (k ≡ r) ⊎ (is_marked marks k ≡ true) =
         λ k h. marked-cases marks r k (subst (λ ms. is_marked ms k ≡ true) marks_are h)
         in
-        let key_kept : (key : EntryKey) → Contains keys key → Contains keys' key = λ key h. subst (λ ks. Contains ks key) (sym added) (keys_with-kept marks keys (entry_key_at H cells refs r) key h) in
-        let key_cases : (key : EntryKey) → Contains keys' key → (entry_key_at H cells refs r ≡ key) ⊎ Contains keys key =
+        let key_kept : (key : ExportKey) → Contains keys key → Contains keys' key = λ key h. subst (λ ks. Contains ks key) (sym added) (keys_with-kept marks keys (entry_key_at H cells refs r) key h) in
+        let key_cases : (key : ExportKey) → Contains keys' key → (entry_key_at H cells refs r ≡ key) ⊎ Contains keys key =
         λ key h. keys_with-cases marks keys (entry_key_at H cells refs r) key (subst (λ ks. Contains ks key) added h)
         in (
           record {
@@ -200,13 +200,13 @@ module _ (H : List ℕ → Hash256) (cells : List FaceView) (refs : List (List �
             keyed =
                 λ key h.
                 ⊎_elim
-                (λ same. sym same ∙ ap (entry_key_at H cells refs) (ap (λ (x : EntryKey). x.number) same))
+                (λ same. sym same ∙ ap (entry_key_at H cells refs) (ap (λ (x : ExportKey). x.number) same))
                 (λ old. walked.keyed key old)
                 (key_cases key h);
             marked =
                 λ key h.
                 ⊎_elim
-                (λ same. subst (λ n. is_marked marks' n ≡ true) (ap (λ (x : EntryKey). x.number) same) new)
+                (λ same. subst (λ n. is_marked marks' n ≡ true) (ap (λ (x : ExportKey). x.number) same) new)
                 (λ old. kept key.number (walked.marked key old))
                 (key_cases key h);
             below =
@@ -249,7 +249,7 @@ module _ (H : List ℕ → Hash256) (cells : List FaceView) (refs : List (List �
         (subst (λ c. Contains (subtrees c) s) (sym child.2) below.2))
         (subtrees-cases (cell k) s h)
 
-    pub AreReached-walked : (done : ℕ) (marks : List Bool) (keys : List EntryKey) → length cells ≤ done → IsWalked done 0 marks keys → AreReached H cells refs root keys
+    pub AreReached-walked : (done : ℕ) (marks : List Bool) (keys : List ExportKey) → length cells ≤ done → IsWalked done 0 marks keys → AreReached H cells refs root keys
     AreReached-walked done marks keys all walked =
         record {
           there = λ key h. let low = marked-within marks key.number (walked.marked key h) in omega (arith, walked.long);

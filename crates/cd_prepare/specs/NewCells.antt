@@ -8,13 +8,13 @@ use Rattle.cd_cell.specs.FaceView.{FaceView}
 use Rattle.cd_cell.specs.CellFaults.{no_info}
 use Rattle.cd_cell.specs.Levels.{rep_of_face}
 use Rattle.cd_cell.specs.Listings.{listing_cmp}
-use Rattle.cd_prepare.specs.declared.key.EntryKey.{EntryKey}
-use Rattle.cd_prepare.specs.Keys.{entry_key}
+use Rattle.cd_cell.specs.declared.export_key.ExportKey.{ExportKey}
+use Rattle.cd_cell.specs.Keys.{export_key}
 
 -- the keys of cells by what they show, in their places
-pub record AreKeys (infos : List ChildInfo) (keys : List EntryKey) (count : ℕ) : Type 0 where
+pub record AreKeys (infos : List ChildInfo) (keys : List ExportKey) (count : ℕ) : Type 0 where
   pub counted : length keys ≡ count
-  pub made : (k : ℕ) (d : EntryKey) → k < count → slice_index_or keys k d ≡ entry_key (slice_index_or infos k no_info) k
+  pub made : (k : ℕ) (d : ExportKey) → k < count → slice_index_or keys k d ≡ export_key (slice_index_or infos k no_info) k
 
 -- a face as it is listed
 abbrev pub new_cell_with : (List ℕ → Hash256) → FaceView → NewCell

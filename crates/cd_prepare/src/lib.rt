@@ -1,7 +1,6 @@
 //! Prepared values: lists of the new cells of a state, ready to be stored.
 #![tactic(auto)]
 
-mod key;
 mod laws;
 mod listing;
 mod merged;
@@ -12,7 +11,7 @@ mod update;
 mod zero;
 
 pub use laws::{all_cells_of_a_state_stand_for_it, new_cells_stand_for_the_applied_tree};
-pub use merged::{prepare_merged, split_face};
+pub use merged::prepare_merged;
 pub use prepare_fault::PrepareFault;
 pub use update::prepare_update;
 pub use zero::{all_cells, prepare_zero};

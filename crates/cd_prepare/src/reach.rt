@@ -1,10 +1,9 @@
 ghost use Rattle.std.specs.Prelude.{◌≡◌, ◌<◌, false, true, [], length, replicate, slice_set, IfOk, OnOk};
-ghost use Rattle.cd_prepare.specs.Keys.{entry_key};
+ghost use Rattle.cd_cell.specs.Keys.{export_key};
 ghost use Rattle.cd_prepare.specs.Reached.{keys_with, AreReached};
 
-use crate::key::EntryKey;
 use crate::start::Start;
-use cd_cell::{ChildInfo, Hash32};
+use cd_cell::{ChildInfo, ExportKey, Hash32};
 use std::alloc::{AllocError, Global};
 
 /// What is reached so far.
@@ -13,7 +12,7 @@ struct Reached {
     /// For each entry whether it is reached.
     marks: Vec<bool>,
     /// The key of each entry that is reached.
-    keys: Vec<EntryKey>,
+    keys: Vec<ExportKey>,
 }
 
 impl Reached {
@@ -33,10 +32,10 @@ impl Reached {
         requires { number < length self.old.marks.items }
         ensures marks { OnOk result (self.new.marks.items ≡ slice_set self.old.marks.items number true) }
         ensures keys { OnOk result (self.new.keys.items
-            ≡ keys_with self.old.marks.items self.old.keys.items (entry_key info.now number)) }
+            ≡ keys_with self.old.marks.items self.old.keys.items (export_key info.now number)) }
     {
         if !self.marks[number as usize] {
-            self.keys.push(EntryKey::of(info, number))?;
+            self.keys.push(ExportKey::of(info, number as usize))?;
         }
         self.marks[number as usize] = true;
         Ok(())
@@ -45,7 +44,7 @@ impl Reached {
 
 /// The key of each entry that a root leads to, and of the root itself. The entries are gone over from the root to the
 /// last one, since the children of an entry stand behind it.
-pub fn reach<H: Hash32>(alloc: Global, root: &Start<'_, H>) -> Result<Vec<EntryKey>, AllocError>
+pub fn reach<H: Hash32>(alloc: Global, root: &Start<'_, H>) -> Result<Vec<ExportKey>, AllocError>
     ensures { IfOk result (λ keys.
         AreReached H.digest_of root.now.bag.now.cells root.now.bag.now.refs root.now.number keys.items) }
 {

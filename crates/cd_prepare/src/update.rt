@@ -1,4 +1,4 @@
-ghost use Rattle.std.specs.Prelude.{◌≡◌, ◌<◌, ◌^◌, length, map, Contains, Some, None, IfOk};
+ghost use Rattle.std.specs.Prelude.{◌≡◌, length, map, Contains, Some, None, IfOk};
 ghost use Rattle.cd_cell.specs.FaceView.{FaceView};
 ghost use Rattle.cd_cell.specs.Infos.{rep_of_info};
 ghost use Rattle.cd_cell.specs.Levels.{info_of_face};
@@ -13,20 +13,18 @@ ghost use Rattle.cd_prepare.specs.States.{Answers};
 ghost use Rattle.cd_prepare.specs.Applied.{stated_old, stated_new, clash_fault, faces_fault, update_fault, IsUpdateApplied};
 
 use crate::PrepareFault;
-use crate::key::EntryKey;
-use crate::listing::{cells_of, sort};
-use cd_cell::{ChildInfo, Face, Hash32, NewCell, Prepared, least_clash};
+use crate::listing::cells_of;
+use cd_cell::{ChildInfo, ExportKey, Face, Hash32, NewCell, Prepared, least_clash, sort_keys};
 use cd_update::{Update, graft, pair_old};
 use std::alloc::{AllocError, Global};
 
 /// The keys of cells by what they show.
-fn keys_of(alloc: Global, infos: &[ChildInfo]) -> Result<Vec<EntryKey>, AllocError>
-    requires { length infos.now < 2 ^ 32 }
+fn keys_of(alloc: Global, infos: &[ChildInfo]) -> Result<Vec<ExportKey>, AllocError>
     ensures { IfOk result (λ keys. AreKeys infos.now keys.items (length infos.now)) }
 {
     let mut keys = Vec::with_capacity(alloc, infos.len())?;
     for (number, info) in infos.iter().enumerate() {
-        keys.push(EntryKey::of(info, number as u32))?;
+        keys.push(ExportKey::of(info, number))?;
     }
     Ok(keys)
 }
@@ -37,14 +35,13 @@ fn listing_of<H: Hash32>(
     faces: &[Face],
     infos: &[ChildInfo],
 ) -> Result<Vec<NewCell>, AllocError>
-    requires few { length infos.now < 2 ^ 32 }
     requires shown { infos.now ≡ map (info_of_face H.digest_of) faces.now }
     requires good { (face : FaceView) → Contains faces.now face → IsGoodFace face }
     requires clear { clash_of H.digest_of faces.now ≡ None }
     ensures { IfOk result (λ cells. AreListed H.digest_of faces.now cells.items) }
 {
     let mut keys = keys_of(alloc, infos)?;
-    sort(&mut keys);
+    sort_keys(&mut keys);
     cells_of(alloc, faces, &keys)
 }
 

@@ -7,10 +7,10 @@ ghost use Rattle.cd_cell.specs.Listings.{new_cell_of, IsValid};
 ghost use Rattle.cd_prepare.specs.States.{state_fault, Answers, IsWhole};
 
 use crate::PrepareFault;
-use crate::listing::{cells_of, sort};
+use crate::listing::cells_of;
 use crate::reach::reach;
 use crate::start::Start;
-use cd_cell::{Bag, Hash32, NewCell, Prepared};
+use cd_cell::{Bag, Hash32, NewCell, Prepared, sort_keys};
 use std::alloc::{AllocError, Global};
 
 /// All cells that an entry of a bag leads to, its own first, each once, in the order of an export: by height, the
@@ -38,7 +38,7 @@ fn cells_below<H: Hash32>(alloc: Global, root: &Start<'_, H>) -> Result<Vec<NewC
     ensures good { IfOk result (λ cells. All (λ c. IsGoodFace c.face) cells.items) }
 {
     let mut keys = reach(alloc, root)?;
-    sort(&mut keys);
+    sort_keys(&mut keys);
     cells_of(alloc, root.bag.cells(), &keys)
 }
 

@@ -1,3 +1,4 @@
+pub mod BlocksInOrder
 pub mod Faults
 pub mod ReadLists
 pub mod UnfoldedCells
@@ -12,3 +13,6 @@ pub mod ToldContents
 pub mod NextEntries
 pub mod PassSteps
 pub mod OpenedStores
+pub mod SettledWorlds
+pub mod Settlings
+pub mod Openings

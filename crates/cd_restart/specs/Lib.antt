@@ -3,6 +3,9 @@ pub mod Lists
 pub mod ScanFaults
 pub mod Answers
 pub mod Opened
+pub mod Found
 pub mod RowView
 pub mod Rows
 pub mod Walks
+pub mod Settled
+pub mod OpenEnds

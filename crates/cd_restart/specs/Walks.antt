@@ -1,10 +1,13 @@
 -- Inner: going over a table's entries in the order of their keys, by the key that was met last.
-use Rattle.std.specs.Prelude.{◌≡◌, ℕ, List, [], ◌∷◌, ◌++◌, Option, Some, None, Result, Ok, Err}
+use Rattle.std.specs.Prelude.{◌≡◌, ℕ, List, [], ◌∷◌, ◌++◌, IsTrue, Contains, AllPairs, Option, Some, None, Result, Ok, Err}
 use Rattle.std.specs.List.{filter_map, AllByRecursion}
 use Rattle.std.specs.Option.{option_or}
 use Rattle.cd_base.specs.declared.hash.Hash256.{Hash256}
 use Rattle.cd_block.specs.declared.description.Descr.{Descr}
 use Rattle.cd_block.specs.Block.{key_of}
+use Rattle.cd_block.specs.Description.{IsDescr, IsDescrFit}
+use Rattle.cd_keeper.specs.Contents.{is_above}
+use Rattle.cd_world.specs.Standing.{IsBeforeBlock}
 use Rattle.cd_world.specs.Walks.{above}
 use Rattle.cd_restart.specs.declared.scan_fault.ScanFault.{ScanFault}
 use Rattle.cd_restart.specs.Lists.{first_of}
@@ -41,6 +44,18 @@ pub record AreBlocksRead (es : List Entry) (after : Option (List ℕ)) (blocks :
   pub faults : first_of desc_fault (above after es) ≡ first_of desc_fault es
   pub blocks_are : blocks ++ filter_map descr_of (above after es) ≡ filter_map descr_of es
   pub fit : AllByRecursion IsDescEntry (above after es) → AllByRecursion IsDescEntry es
+
+-- what is read of a block above a key, whatever the keeper tells
+pub record IsBlockAbove (after : Option (List ℕ)) (d : Descr) : Type 0 where
+  pub is : IsDescr d
+  pub fit : IsDescrFit d
+  pub above : IsTrue (is_above after (key_of d.id))
+
+-- the blocks that were read up to a key stand in the order of their ids
+pub record AreBlocksTo (after : Option (List ℕ)) (blocks : List Descr) : Type 0 where
+  pub are : (d : Descr) → Contains blocks d → IsDescr d × IsDescrFit d
+  pub ordered : AllPairs IsBeforeBlock blocks
+  pub below : (d next : Descr) → Contains blocks d → IsBlockAbove after next → IsBeforeBlock d next
 
 module _ (H : List ℕ → Hash256) where
   -- the rows so far, and those of the cells that are left, are all; and so are the faults

@@ -1,13 +1,16 @@
-ghost use Rattle.std.specs.Prelude.{◌≡◌, ℕ, ◌-◌, ◌^◌, List, [], None, min, length, IfSome, IfOk, IfErr, OnOk};
+ghost use Rattle.std.specs.Prelude.{◌≡◌, ℕ, ◌-◌, ◌^◌, List, [], All, AllPairs, None, min, length, IfSome, IfOk, IfErr, OnOk};
 ghost use Rattle.std.specs.List.{sum_by};
 ghost use Rattle.std.specs.FinMap as finite;
 ghost use Rattle.cd_base.specs.declared.hash.Hash256.{Hash256};
+ghost use Rattle.cd_block.specs.Description.{IsDescrFit};
 ghost use Rattle.cd_keeper.specs.Keeping.{KeepsHeld};
+ghost use Rattle.cd_world.specs.Standing.{IsBeforeBlock};
 ghost use Rattle.cd_restart.specs.Lists.{first_of};
 ghost use Rattle.cd_restart.specs.Stored.{AreBytes, cells_in};
 ghost use Rattle.cd_restart.specs.ScanFaults.{record_fault, counted_fault, scan_fault};
 ghost use Rattle.cd_restart.specs.Rows.{AreRowsOf};
 ghost use Rattle.cd_restart.specs.Answers.{Answers, HasScanCause};
+ghost use Rattle.cd_restart.specs.Found.{opened_of};
 ghost use Rattle.cd_restart.specs.Opened.{IsRead, IsOpened, IsDamaged};
 
 use crate::checks::{check_counts, check_lineages, check_roots};
@@ -43,10 +46,21 @@ fn check_cells<K: Keeper>(
     check_counts(rows)
 }
 
+/// What was read of a store: its blocks, and how much it holds.
+#[derive(Drop)]
+pub struct Found {
+    pub blocks: Vec<Descr>,
+    pub cells: u64,
+    pub counts: u64,
+}
+
 /// Reads all that a keeper holds, and looks whether it is a store.
-fn read_store<K: Keeper, H: Hash32>(alloc: Global, keeper: &mut K) -> Result<Opened, ScanFault>
+pub fn read_store<K: Keeper, H: Hash32>(alloc: Global, keeper: &mut K) -> Result<Found, ScanFault>
     ensures answers { IfSome (K.held keeper.old) (λ contents. Answers (scan_fault H.digest_of contents) result) }
-    ensures read { IfOk result (λ opened. IfSome (K.held keeper.old) (λ contents. IsRead contents opened)) }
+    ensures read { IfOk result (λ found. IfSome (K.held keeper.old)
+        (λ contents. IsRead contents (opened_of found))) }
+    ensures written { IfOk result (λ found. All IsDescrFit found.blocks.items) }
+    ensures ordered { IfOk result (λ found. AllPairs IsBeforeBlock found.blocks.items) }
     ensures keeps { KeepsHeld K.held K.trail K.batches keeper.old keeper.new }
     ensures cause { HasScanCause (K.faults keeper.old) (K.faults keeper.new) result }
 {
@@ -55,8 +69,8 @@ fn read_store<K: Keeper, H: Hash32>(alloc: Global, keeper: &mut K) -> Result<Ope
     let mut rows = read_cells::<K, H>(alloc, keeper)?;
     let counts = check_cells(keeper, blocks.as_slice(), rows.as_mut_slice())?;
     let cells = rows.len() as u64;
-    Ok(Opened {
-        blocks: Rows::from(blocks),
+    Ok(Found {
+        blocks,
         cells,
         counts,
     })
@@ -80,5 +94,12 @@ pub fn scan<K: Keeper, H: Hash32>(alloc: Global, keeper: &mut K) -> Result<Opene
     ensures keeps { KeepsHeld K.held K.trail K.batches keeper.old keeper.new }
     ensures cause { HasScanCause (K.faults keeper.old) (K.faults keeper.new) result }
 {
-    read_store::<K, H>(alloc, keeper)
+    match read_store::<K, H>(alloc, keeper) {
+        Ok(found) => Ok(Opened {
+            blocks: Rows::from(found.blocks),
+            cells: found.cells,
+            counts: found.counts,
+        }),
+        Err(fault) => Err(fault),
+    }
 }

@@ -1,11 +1,13 @@
 //! The passes over all that a keeper holds.
 
-ghost use Rattle.std.specs.Prelude.{◌≡◌, ℕ, List, [], None, IfSome, IfOk, OnOk};
+ghost use Rattle.std.specs.Prelude.{◌≡◌, ℕ, List, [], All, AllPairs, None, IfSome, IfOk, OnOk};
 ghost use Rattle.std.specs.List.{AllByRecursion};
 ghost use Rattle.std.specs.FinMap as finite;
 ghost use Rattle.cd_base.specs.declared.hash.Hash256.{Hash256};
+ghost use Rattle.cd_block.specs.Description.{IsDescrFit};
 ghost use Rattle.cd_cell.specs.Equality.{same_hash};
 ghost use Rattle.cd_keeper.specs.Keeping.{KeepsHeld};
+ghost use Rattle.cd_world.specs.Standing.{IsBeforeBlock};
 ghost use Rattle.cd_restart.specs.Lists.{first_of};
 ghost use Rattle.cd_restart.specs.Stored.{IsDescEntry, IsCellEntry, blocks_in, cells_in};
 ghost use Rattle.cd_restart.specs.ScanFaults as faults;
@@ -30,6 +32,8 @@ pub fn read_blocks<K: Keeper>(alloc: Global, keeper: &mut K) -> Result<Vec<Descr
         (λ contents. blocks.items ≡ blocks_in contents)) }
     ensures fit { OnOk result (IfSome (K.held keeper.old)
         (λ contents. AllByRecursion IsDescEntry (finite.entries contents.descs))) }
+    ensures written { IfOk result (λ blocks. All IsDescrFit blocks.items) }
+    ensures ordered { IfOk result (λ blocks. AllPairs IsBeforeBlock blocks.items) }
     ensures keeps { KeepsHeld K.held K.trail K.batches keeper.old keeper.new }
     ensures cause { HasScanCause (K.faults keeper.old) (K.faults keeper.new) result }
 {

@@ -13,7 +13,7 @@ ghost use Rattle.cd_restart.specs.Lists.{first_of};
 ghost use Rattle.cd_restart.specs.Stored.{IsDescEntry, IsCellEntry, blocks_in, cells_in};
 ghost use Rattle.cd_restart.specs.ScanFaults as faults;
 ghost use Rattle.cd_restart.specs.Rows.{AreRowsOf, kid_references};
-ghost use Rattle.cd_restart.specs.Walks.{IsNext, IsCellNext, IsBlockNext};
+ghost use Rattle.cd_restart.specs.Walks.{IsNext, IsBlockAbove, IsCellNext, IsBlockNext};
 ghost use Rattle.cd_restart.specs.Answers as answers;
 ghost use Rattle.cd_restart.specs.Answers.{Answers, HasScanCause};
 
@@ -39,6 +39,7 @@ pub fn next_block<K: Keeper>(
 ) -> Result<Option<Descr>, ScanFault>
     ensures next { IfSome (K.held keeper.old) (λ contents.
         IsNext faults.desc_fault IsBlockNext (finite.entries contents.descs) after result) }
+    ensures above { IfOk result (λ found. IfSome found (IsBlockAbove after)) }
     ensures keeps { KeepsHeld K.held K.trail K.batches keeper.old keeper.new }
     ensures cause { HasScanCause (K.faults keeper.old) (K.faults keeper.new) result }
 {

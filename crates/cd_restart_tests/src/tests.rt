@@ -1,9 +1,12 @@
+ghost use Rattle.std.specs.Prelude.{◌≡◌, [], IfOk};
+
 use crate::stores::{block_id, record, refusal, sha_totals, totals, two_cells, weak, zero_state};
 use cd_base::Hash256;
 use cd_cell::WeakSum;
 use cd_keeper::{MemoryKeeper, SteadyKeeper};
 use cd_record::RecordFault;
-use cd_restart::{ScanFault, scan};
+use cd_restart::{OpenFault, ScanFault, open_core, scan};
+use std::alloc::Global;
 use std::test::Fail;
 
 /// The hash of the empty cell.
@@ -144,5 +147,72 @@ fn a_keeper_that_fails_is_told(rt: HostRuntime) -> Result<(), Fail> {
         assert!(rt; keeper.faults() == 1);
         assert!(rt; scan::<MemoryKeeper, WeakSum>(alloc, &mut keeper).is_ok());
     }
+    Ok(())
+}
+
+/// A keeper with the block of w(04) over w(03), those of w(03) in two workchains, and of these all but the last leaving.
+fn stopped(alloc: Global) -> Result<MemoryKeeper, Fail>
+    ensures { IfOk result (λ keeper. keeper.trail ≡ []) }
+{
+    let mut keeper = MemoryKeeper::new(alloc, Vec::new(alloc));
+    keeper.put_raw_cell(weak(3), record(alloc, 3, &[0, 2, 1], &[])?)?;
+    keeper.put_raw_cell(weak(4), record(alloc, 1, &[1, 0], &[(3, 0)])?)?;
+    let mut last = block_id(weak(3), 0);
+    last.shard_id.workchain = 0;
+    for (id, depth, leaving) in [
+        (block_id(weak(4), 0), 1, 1),
+        (block_id(weak(3), 0), 0, 1),
+        (last, 0, 0),
+    ] {
+        let mut text = zero_state(alloc, id.root, depth)?;
+        if let Some(flag) = text.get_mut(1) {
+            *flag = leaving;
+        }
+        keeper.put_raw_desc(id.to_key(), text)?;
+    }
+    Ok(keeper)
+}
+
+#[test]
+fn a_stopped_store_is_settled(rt: HostRuntime) -> Result<(), Fail> {
+    let alloc = rt.alloc();
+    let mut keeper = stopped(alloc)?;
+    let whole = scan::<MemoryKeeper, WeakSum>(alloc, &mut keeper)?;
+    assert!(rt; whole.blocks.as_slice().len() == 3 && whole.cells == 2 && whole.counts == 4);
+    let Ok(core) = open_core::<MemoryKeeper, WeakSum>(alloc, keeper, 9) else {
+        return Err(Fail::from("the store isn't opened"));
+    };
+    assert!(rt; core.world().blocks.as_slice().len() == 1 && core.journal().is_empty());
+    let (mut keeper, _) = core.close();
+    assert!(rt; keeper.batches() == 2);
+    let rest = scan::<MemoryKeeper, WeakSum>(alloc, &mut keeper)?;
+    assert!(rt; rest.blocks.as_slice().len() == 1 && rest.cells == 1 && rest.counts == 1);
+    // What stood in between is a store too.
+    let mut between = keeper.at(1)?.ok_or("no first batch")?;
+    assert!(rt;
+        scan::<SteadyKeeper, WeakSum>(alloc, &mut between)?
+            .blocks
+            .as_slice()
+            .len()
+            == 2
+    );
+    Ok(())
+}
+
+#[test]
+fn a_damaged_store_is_not_opened(rt: HostRuntime) -> Result<(), Fail> {
+    let alloc = rt.alloc();
+    let mut keeper = stopped(alloc)?;
+    keeper.put_raw_cell(weak(9), [3].to_vec(alloc)?)?;
+    let refused = match open_core::<MemoryKeeper, WeakSum>(alloc, keeper, 9) {
+        Ok(_) => return Err(Fail::from("the store is opened")),
+        Err(refused) => refused,
+    };
+    let keeper = refused.0;
+    let due = weak(9);
+    assert!(rt;
+        matches!(refused.1, OpenFault::Damaged(ScanFault::Record { hash, .. }) if hash == due)
+    );
+    assert!(rt; keeper.batches() == 0);
     Ok(())
 }

@@ -1,5 +1,5 @@
-pub mod OrderLaws
-pub mod CountLaws
+pub mod EmptyStores
+pub mod StoringLaws
 pub mod StateLaws
 pub mod OnceLaws
 pub mod WordLaws

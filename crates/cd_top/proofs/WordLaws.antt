@@ -1,9 +1,10 @@
 -- Which words are taken.
-use Rattle.std.proofs.Common.{◌≡◌, ◌≢◌, ℕ, ℤ, List, None, Result, Ok, Err, IfErr, refl, sym, ap, subst, inl, inr}
+use Rattle.std.proofs.Common.{◌≡◌, ◌≢◌, ℕ, ℤ, List, [], None, Result, Ok, Err, IfErr, refl, sym, ap, subst, inl, inr}
 use Rattle.cd_base.specs.declared.source.Source.{Ghosts as SourceGhosts}
 use Rattle.cd_base.specs.declared.sink.Sink.{Ghosts as SinkGhosts}
 use Rattle.cd_keeper.specs.declared.keeper.Keeper.{Ghosts as KeeperGhosts}
 use Rattle.cd_base.specs.declared.hash.Hash256.{Hash256}
+use Rattle.cd_event.specs.declared.entry.Entry.{Entry}
 use Rattle.cd_words.specs.declared.command.Command.{Command}
 use Rattle.cd_words.specs.declared.command.Command.TheVariants as command
 use Rattle.cd_words.specs.declared.fault.WordFault.{WordFault}
@@ -83,19 +84,20 @@ pub ends-by_other : (words : List (List ℕ)) (c : Command) (r : Result Work Sta
 ends-by_other words c (Ok work) has h = tt
 ends-by_other words c (Err end) has h = subst (EndsUntaken words) (sym h.0) (untaken-other words c (h.1, h.2) has)
 
-module _ (H : List ℕ → Hash256) {S O K : Type 0} (s : SourceGhosts S) (o : SinkGhosts O) (k : KeeperGhosts K) (words : List (List ℕ)) (i : S) (out : O) (keeper : K) where
-  same : AreSame out out keeper keeper
-  same = record { sink = refl; keeper = refl }
+module _ (H : List ℕ → Hash256) {S O K X : Type 0} (s : SourceGhosts S) (o : SinkGhosts O) (k : KeeperGhosts K) (words : List (List ℕ)) (i : S) (out : O) (keeper : K)
+    (journal : List (Entry X)) where
+  same : journal ≡ [] → AreSame out out keeper keeper journal
+  same none = record { sink = refl; keeper = refl; entries = none }
 
-  untaken-zero : (end : Status) → EndsUntaken words end → (name : ZeroName) → IsZeroLine name words → ZeroEnds H s o k name i i out out keeper keeper end
-  untaken-zero status.Memory ends name line = (refl, kept-same H name s o k i i out out keeper keeper same, refl)
-  untaken-zero (status.Usage fault) ends name line = absurd (ends.no_zero name line)
-  untaken-zero status.Ok ends name line = absurd ends
-  untaken-zero (status.BadInput fault) ends name line = absurd ends
-  untaken-zero status.ReadFault ends name line = absurd ends
-  untaken-zero status.WriteFault ends name line = absurd ends
-  untaken-zero status.KeeperFault ends name line = absurd ends
-  untaken-zero (status.Refused refusal) ends name line = absurd ends
+  untaken-zero : (end : Status) → journal ≡ [] → EndsUntaken words end → (name : ZeroName) → IsZeroLine name words → ZeroEnds H s o k name i i out out keeper keeper journal end
+  untaken-zero status.Memory none ends name line = (refl, none, kept-same H name s o k i i out out keeper keeper journal (same none), refl)
+  untaken-zero (status.Usage fault) none ends name line = absurd (ends.no_zero name line)
+  untaken-zero status.Ok none ends name line = absurd ends
+  untaken-zero (status.BadInput fault) none ends name line = absurd ends
+  untaken-zero status.ReadFault none ends name line = absurd ends
+  untaken-zero status.WriteFault none ends name line = absurd ends
+  untaken-zero status.KeeperFault none ends name line = absurd ends
+  untaken-zero (status.Refused refusal) none ends name line = absurd ends
 
   untaken-gen : (end : Status) → EndsUntaken words end → (number : ℕ) → IsGenLine number words → FeedEnds o number out out end
   untaken-gen status.Memory ends number line = refl
@@ -108,33 +110,33 @@ module _ (H : List ℕ → Hash256) {S O K : Type 0} (s : SourceGhosts S) (o : S
   untaken-gen (status.Refused refusal) ends number line = absurd ends
 
   -- a call over words that are not taken
-  pub ends-untaken : (end : Status) → EndsUntaken words end → Ends H s o k words i i out out keeper keeper end
-  ends-untaken end ends = record {
-    zero = untaken-zero end ends;
-    gen = λ number line. (untaken-gen end ends number line, refl, refl);
-    other = λ no_zero no_gen. (ends, refl, same);
+  pub ends-untaken : (end : Status) → journal ≡ [] → EndsUntaken words end → Ends H s o k words i i out out keeper keeper journal end
+  ends-untaken end none ends = record {
+    zero = untaken-zero end none ends;
+    gen = λ number line. (untaken-gen end ends number line, refl, refl, none);
+    other = λ no_zero no_gen. (ends, refl, same none);
   }
 
   -- a call over words of `zero`
   ends-zero : (name : ZeroName) (j : S) (out_after : O) (keeper_after : K) (end : Status) → IsZeroLine name words
-      → ZeroEnds H s o k name i j out out_after keeper keeper_after end → Ends H s o k words i j out out_after keeper keeper_after end
+      → ZeroEnds H s o k name i j out out_after keeper keeper_after journal end → Ends H s o k words i j out out_after keeper keeper_after journal end
   ends-zero name j out_after keeper_after end line ends = record {
-    zero = λ other is. subst (λ n. ZeroEnds H s o k n i j out out_after keeper keeper_after end) (one_name words name other line is) ends;
+    zero = λ other is. subst (λ n. ZeroEnds H s o k n i j out out_after keeper keeper_after journal end) (one_name words name other line is) ends;
     gen = λ number is. absurd (not_both words name number line is);
     other = λ no_zero no_gen. absurd (no_zero name line);
   }
 
   -- a call over words of `gen`
   ends-gen : (number : ℕ) (j : S) (out_after : O) (keeper_after : K) (end : Status) → IsGenLine number words
-      → FeedEnds o number out out_after end × (j ≡ i) × (keeper_after ≡ keeper) → Ends H s o k words i j out out_after keeper keeper_after end
+      → FeedEnds o number out out_after end × (j ≡ i) × (keeper_after ≡ keeper) × (journal ≡ []) → Ends H s o k words i j out out_after keeper keeper_after journal end
   ends-gen number j out_after keeper_after end line ends = record {
     zero = λ name is. absurd (not_both words name number is line);
-    gen = λ other is. (subst (λ n. FeedEnds o n out out_after end) (one_number words number other line is) ends.0, ends.1, ends.2);
+    gen = λ other is. (subst (λ n. FeedEnds o n out out_after end) (one_number words number other line is) ends.0, ends.1, ends.2, ends.3);
     other = λ no_zero no_gen. absurd (no_gen number line);
   }
 
   -- a call over words that ask for some work
   pub ends-work : (w : Work) (j : S) (out_after : O) (keeper_after : K) (end : Status) → IsLineOf w words
-      → WorkEnds H s o k w i j out out_after keeper keeper_after end → Ends H s o k words i j out out_after keeper keeper_after end
+      → WorkEnds H s o k w i j out out_after keeper keeper_after journal end → Ends H s o k words i j out out_after keeper keeper_after journal end
   ends-work (work.Zero name) j out_after keeper_after end line ends = ends-zero name j out_after keeper_after end line ends
   ends-work (work.Gen number) j out_after keeper_after end line ends = ends-gen number j out_after keeper_after end line ends

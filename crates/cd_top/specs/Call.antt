@@ -1,9 +1,10 @@
 -- Trusted: how a call of the program ends, by its words.
-use Rattle.std.specs.Prelude.{◌≡◌, ◌⊎◌, ℕ, List, None}
+use Rattle.std.specs.Prelude.{◌≡◌, ◌⊎◌, ℕ, List, [], None}
 use Rattle.cd_base.specs.declared.hash.Hash256.{Hash256}
 use Rattle.cd_base.specs.declared.source.Source.{Ghosts as SourceGhosts}
 use Rattle.cd_base.specs.declared.sink.Sink.{Ghosts as SinkGhosts}
 use Rattle.cd_keeper.specs.declared.keeper.Keeper.{Ghosts as KeeperGhosts}
+use Rattle.cd_event.specs.declared.entry.Entry.{Entry}
 use Rattle.cd_words.specs.declared.command.Command.{Command}
 use Rattle.cd_words.specs.declared.command.Command.TheVariants as command
 use Rattle.cd_words.specs.declared.fault.WordFault.{WordFault}
@@ -42,12 +43,13 @@ EndsUntaken words (status.Usage fault) = IsNotTaken words fault
 EndsUntaken words status.Memory = Unit {0}
 EndsUntaken words _ = ⊥
 
-module _ (H : List ℕ → Hash256) {S O K : Type 0} (s : SourceGhosts S) (o : SinkGhosts O) (k : KeeperGhosts K) where
+module _ (H : List ℕ → Hash256) {S O K X : Type 0} (s : SourceGhosts S) (o : SinkGhosts O) (k : KeeperGhosts K) where
   -- how a call ends: a row for each command, and one for words that are not taken
-  pub record Ends (words : List (List ℕ)) (i j : S) (out out_after : O) (keeper keeper_after : K) (end : Status) : Type 0 where
+  pub record Ends (words : List (List ℕ)) (i j : S) (out out_after : O) (keeper keeper_after : K) (journal : List (Entry X))
+      (end : Status) : Type 0 where
     pub zero : (name : ZeroName) → IsZeroLine name words
-        → ZeroEnds H s o k name i j out out_after keeper keeper_after end
+        → ZeroEnds H s o k name i j out out_after keeper keeper_after journal end
     pub gen : (number : ℕ) → IsGenLine number words
-        → FeedEnds o number out out_after end × (j ≡ i) × (keeper_after ≡ keeper)
+        → FeedEnds o number out out_after end × (j ≡ i) × (keeper_after ≡ keeper) × (journal ≡ [])
     pub other : ((name : ZeroName) → ¬ IsZeroLine name words) → ((number : ℕ) → ¬ IsGenLine number words)
-        → EndsUntaken words end × (j ≡ i) × AreSame out out_after keeper keeper_after
+        → EndsUntaken words end × (j ≡ i) × AreSame out out_after keeper keeper_after journal

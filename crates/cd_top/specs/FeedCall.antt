@@ -5,7 +5,7 @@ use Rattle.cd_feed.specs.Feeds.{feed_text}
 use Rattle.cd_gen.specs.Generated.{feed_of}
 use Rattle.cd_top.specs.declared.status.Status.{Status}
 use Rattle.cd_top.specs.declared.status.Status.TheVariants as status
-use Rattle.cd_top.specs.ZeroCall.{HasGot, HasFailed}
+use Rattle.cd_top.specs.ZeroCall.{PrintingEnds}
 
 -- the text of the feed of a number
 abbrev pub text_of_feed : ℕ → List ℕ
@@ -14,14 +14,10 @@ text_of_feed number = feed_text (feed_of number)
 -- how writing a text ends, where the text was to be made first
 module _ {O : Type 0} (o : SinkGhosts O) (text : List ℕ) where
   abbrev pub TextEnds : O → O → Status → Type 0
-  -- written
-  TextEnds out out_after status.Ok = HasGot o text out out_after
-  -- the sink failed: a part of it is written
-  TextEnds out out_after status.WriteFault = HasFailed o text out out_after
   -- want of memory: nothing is written
   TextEnds out out_after status.Memory = out_after ≡ out
-  -- nothing else can go wrong
-  TextEnds out out_after _ = ⊥
+  -- written, or the sink failed
+  TextEnds out out_after end = PrintingEnds o text out out_after end
 
 abbrev pub FeedEnds : {O : Type 0} → SinkGhosts O → ℕ → O → O → Status → Type 0
 FeedEnds o number = TextEnds o (text_of_feed number)

@@ -1,20 +1,20 @@
--- Trusted: what storing a state as a zero state does: the block's name, the world with that one block, and the text.
-use Rattle.std.specs.Prelude.{◌≡◌, ℕ, List, [], ◌∷◌, ◌++◌, false, codes}
+-- Trusted: what storing a state as a zero state does: the block's name, the world with that one block, the text, and how
+-- refusals are told.
+use Rattle.std.specs.Prelude.{◌≡◌, ℕ, List, [], ◌∷◌, ◌++◌, length, false, Option, Some, None, codes}
 use Rattle.std.specs.Fmt.{decimal}
-use Rattle.std.specs.FinMap as finite
 use Rattle.cd_base.specs.declared.hash.Hash256.{Hash256}
 use Rattle.cd_block.specs.declared.block.BlockId.{BlockId}
-use Rattle.cd_block.specs.declared.description.Descr.{Descr}
 use Rattle.cd_block.specs.Spelling.{id_text}
-use Rattle.cd_cell.specs.Export.{IsClashFree}
+use Rattle.cd_cell.specs.Export.{IsClashFree, distinct_cells}
 use Rattle.cd_cell.specs.PreparedView.{PreparedView}
 use Rattle.cd_cell.specs.Tree.{Tree, rep_of}
-use Rattle.cd_keeper.specs.Contents.{Change}
+use Rattle.cd_event.specs.declared.names.Who.{Who}
+use Rattle.cd_event.specs.declared.refusal.Refusal.{Refusal}
+use Rattle.cd_event.specs.declared.refusal.Refusal.TheVariants as store
 use Rattle.cd_prepare.specs.States.{IsWhole}
 use Rattle.cd_prepare.specs.declared.prepare_fault.PrepareFault.{PrepareFault}
 use Rattle.cd_prepare.specs.declared.prepare_fault.PrepareFault.TheVariants as prepare
-use Rattle.cd_world.specs.Image.{change_of}
-use Rattle.cd_world.specs.World.{World, held_cells}
+use Rattle.cd_world.specs.World.{World}
 use Rattle.cd_top.specs.declared.status.Status.{Status}
 use Rattle.cd_top.specs.declared.status.Status.TheVariants as status
 use Rattle.cd_top.specs.declared.status.TopRefusal.TheVariants as refusal
@@ -29,10 +29,6 @@ zero_id name root = record {
   file = name.file;
 }
 
--- the description of a zero state with this name and depth
-abbrev pub zero_descr : BlockId → ℕ → Descr
-zero_descr id depth = record { id = id; parents = []; root = id.root; depth = depth; tops = []; leaving = false }
-
 -- the world that has this one block
 abbrev pub world_of : BlockId → Tree → World
 world_of id state = record {
@@ -40,6 +36,10 @@ world_of id state = record {
   pins = [];
   next_pin = 0;
 }
+
+-- who makes the one event of the command
+abbrev pub first_task : Who
+first_task = record { phase = 0; worker = 0; task = 0 }
 
 -- the block's name, and the number of its cells, a line each
 unfoldable pub block_text : BlockId → ℕ → List ℕ
@@ -50,18 +50,13 @@ module _ (H : List ℕ → Hash256) where
   zero_world name state = world_of (zero_id name (rep_of H state)) state
 
   abbrev pub zero_text : ZeroName → Tree → List ℕ
-  zero_text name state =
-      block_text (zero_id name (rep_of H state)) (finite.len (held_cells H (zero_world name state)))
+  zero_text name state = block_text (zero_id name (rep_of H state)) (length (distinct_cells H state))
 
-  -- a value lists all cells of this state
+  -- a value lists all cells of this state, and was prepared over no other
   pub record IsListOf (state : Tree) (value : PreparedView) : Type 0 where
+    pub new : value.old ≡ None
     pub clear : IsClashFree H state
     pub whole : IsWhole H state value.root value.cells
-
-  -- what storing this state takes: the change that makes its world, and what is printed
-  pub record IsPlanOf (name : ZeroName) (state : Tree) (batch : Change) (text : List ℕ) : Type 0 where
-    pub batch_is : batch ≡ change_of H (zero_world name state)
-    pub text_is : text ≡ zero_text name state
 
 -- the faults of preparing that a state can have
 abbrev pub IsStateFault : PrepareFault → Type 0
@@ -75,3 +70,9 @@ abbrev pub status_of : PrepareFault → Status
 status_of (prepare.Roots roots) = status.Refused (refusal.Roots roots)
 status_of (prepare.Level mask) = status.Refused (refusal.Level mask)
 status_of _ = status.Memory
+
+-- the status of a call whose event is refused so; without a refusal memory ran out
+abbrev pub status_by_store : Option Refusal → Status
+status_by_store None = status.Memory
+status_by_store (Some store.Keeper) = status.KeeperFault
+status_by_store (Some why) = status.Refused (refusal.Core why)

@@ -1,24 +1,31 @@
--- Trusted: how the command `zero` ends: what each status says of the input, the output and the keeper.
-use Rattle.std.specs.Prelude.{◌≡◌, ◌≢◌, ℕ, ◌<◌, ◌≤◌, List, [], ◌∷◌, length, Some, is_some, IfSome}
+-- Trusted: how the command `zero` ends: what each status says of the input, the output, the journal and the keeper.
+use Rattle.std.specs.Prelude.{◌≡◌, ◌≢◌, ℕ, ◌<◌, ◌≤◌, List, [], ◌∷◌, length, Some, IfSome}
 use Rattle.cd_base.specs.declared.hash.Hash256.{Hash256}
 use Rattle.cd_base.specs.declared.source.Source.{Ghosts as SourceGhosts}
 use Rattle.cd_base.specs.declared.sink.Sink.{Ghosts as SinkGhosts}
-use Rattle.cd_base.specs.Counts.{Rose, one_more}
+use Rattle.cd_base.specs.Counts.{Rose}
 use Rattle.cd_base.specs.Told.{IsAtEnd, Got, GotPart}
-use Rattle.cd_cell.specs.Tree.{Tree, mask_of}
+use Rattle.cd_cell.specs.PreparedView.{PreparedView}
+use Rattle.cd_cell.specs.Tree.{Tree, mask_of, rep_of}
+use Rattle.cd_event.specs.declared.entry.Entry.{Entry}
+use Rattle.cd_event.specs.declared.entry.Reply.{Reply}
+use Rattle.cd_event.specs.declared.entry.Reply.TheVariants as reply
+use Rattle.cd_event.specs.declared.event.Event.TheVariants.{Zero}
+use Rattle.cd_event.specs.declared.refusal.Refusal.{Refusal}
+use Rattle.cd_event.specs.declared.refusal.Refusal.TheVariants as store
+use Rattle.cd_event.specs.Replies.{entry_of}
 use Rattle.cd_keeper.specs.declared.keeper.Keeper.{Ghosts as KeeperGhosts}
-use Rattle.cd_keeper.specs.Contents.{Change}
-use Rattle.cd_keeper.specs.Keeping.{longer, IsApplied, KeepsHeld}
 use Rattle.cd_boc_read.specs.Grammar.{Spells}
 use Rattle.cd_boc_read.specs.BagFaults.{bag_fault}
-use Rattle.cd_world.specs.Image.{IsContentsOf, IsPlain}
+use Rattle.cd_world.specs.Image.{IsContentsOf}
+use Rattle.cd_top.specs.Leading.{LeadsTo}
 use Rattle.cd_top.specs.declared.status.Status.{Status}
 use Rattle.cd_top.specs.declared.status.Status.TheVariants as status
 use Rattle.cd_top.specs.declared.status.InputFault.TheVariants as input
 use Rattle.cd_top.specs.declared.status.TopRefusal.TheVariants as refusal
 use Rattle.cd_top.specs.declared.limits.TheConstants.{INPUT_LIMIT}
 use Rattle.cd_top.specs.declared.zero.ZeroName.{ZeroName}
-use Rattle.cd_top.specs.Zero.{zero_world, zero_text}
+use Rattle.cd_top.specs.Zero.{first_task, zero_id, zero_world, zero_text, IsListOf}
 
 module _ (H : List ℕ → Hash256) where
   -- the bytes are a bag of this one tree, and its root is of level 0
@@ -67,17 +74,6 @@ module _ (H : List ℕ → Hash256) {S : Type 0} (s : SourceGhosts S) where
     pub input : IsInput s bytes old new
     pub refusal : IsRefusal H bytes end
 
-module _ (H : List ℕ → Hash256) {K : Type 0} (k : KeeperGhosts K) (name : ZeroName) where
-  -- the keeper's contents are those of the world with the one block of this state, in records of version 2 alone, and
-  -- were made in one batch without a fault
-  pub record IsStored (state : Tree) (old new : K) : Type 0 where
-    pub told : is_some (k.held new) ≡ is_some (k.held old)
-    pub held : IfSome (k.held new) (IsContentsOf H (zero_world H name state))
-    pub plain : IfSome (k.held new) IsPlain
-    pub trail : k.trail new ≡ longer (k.trail old) (k.held new)
-    pub batches : k.batches new ≡ one_more (k.batches old)
-    pub steady : NoFault (k.faults old) (k.faults new)
-
 module _ {O : Type 0} (o : SinkGhosts O) where
   -- the sink got these bytes without a fault
   pub record HasGot (text : List ℕ) (old new : O) : Type 0 where
@@ -89,70 +85,97 @@ module _ {O : Type 0} (o : SinkGhosts O) where
     pub failed : Rose (o.faults old) (o.faults new)
     pub got : GotPart (o.taken old) (o.taken new) text
 
+  -- how writing a text ends
+  abbrev pub PrintingEnds : List ℕ → O → O → Status → Type 0
+  PrintingEnds text out out_after status.Ok = HasGot text out out_after
+  PrintingEnds text out out_after status.WriteFault = HasFailed text out out_after
+  PrintingEnds text out out_after _ = ⊥
+
 module _ {K : Type 0} (k : KeeperGhosts K) where
-  -- contents, trail and count of batches are as before
-  abbrev pub Keeps : K → K → Type 0
-  Keeps = KeepsHeld k.held k.trail k.batches
-
-  -- the keeper failed, and holds what it held
-  pub record HasRefused (old new : K) : Type 0 where
-    pub failed : Rose (k.faults old) (k.faults new)
-    pub kept : Keeps old new
-
-  -- the keeper holds what it held, and no fault was counted
+  -- the keeper holds what it held, in as many batches, and no fault was counted
   pub record IsKept (old new : K) : Type 0 where
-    pub kept : Keeps old new
+    pub held : k.held new ≡ k.held old
+    pub trail : IfSome (k.held old) (λ _. k.trail new ≡ k.trail old)
+    pub batches : k.batches new ≡ k.batches old
     pub steady : NoFault (k.faults old) (k.faults new)
 
--- nothing was asked of the sink and the keeper: they are the very same
-pub record AreSame {O K : Type 0} (out out_after : O) (kept kept_after : K) : Type 0 where
+-- nothing was asked of the sink and the keeper: they are the very same, and there is no entry
+pub record AreSame {O K X : Type 0} (out out_after : O) (kept kept_after : K) (journal : List (Entry X)) : Type 0 where
   pub sink : out_after ≡ out
   pub keeper : kept_after ≡ kept
+  pub entries : journal ≡ []
 
-module _ (H : List ℕ → Hash256) {S O K : Type 0} (s : SourceGhosts S) (o : SinkGhosts O) (k : KeeperGhosts K) (name : ZeroName) where
-  -- how the command `zero` ends, with what its words say of the block's name
-  abbrev pub ZeroEnds : S → S → O → O → K → K → Status → Type 0
-  -- stored and printed
-  ZeroEnds i j out out_after keeper keeper_after status.Ok =
-      (state : Tree) × IsOfState H s state i j × IsStored H k name state keeper keeper_after
-      × HasGot o (zero_text H name state) out out_after
-  -- never: these words are those of a command
-  ZeroEnds i j out out_after keeper keeper_after (status.Usage fault) = ⊥
-  -- too long
-  ZeroEnds i j out out_after keeper keeper_after (status.BadInput (input.Long limit)) =
-      (limit ≡ INPUT_LIMIT) × IsLong s i j × AreSame out out_after keeper keeper_after
-  -- no bag, by its first fault
-  ZeroEnds i j out out_after keeper keeper_after (status.BadInput (input.Bag fault)) =
-      IsRefused H s (status.BadInput (input.Bag fault)) i j × AreSame out out_after keeper keeper_after
-  -- the source failed
-  ZeroEnds i j out out_after keeper keeper_after status.ReadFault =
-      Rose (s.faults i) (s.faults j) × AreSame out out_after keeper keeper_after
-  -- the sink failed: stored, and a part of it printed
-  ZeroEnds i j out out_after keeper keeper_after status.WriteFault =
-      (state : Tree) × IsOfState H s state i j × IsStored H k name state keeper keeper_after
-      × HasFailed o (zero_text H name state) out out_after
-  -- the keeper failed: nothing stored, nothing printed
-  ZeroEnds i j out out_after keeper keeper_after status.KeeperFault =
-      (state : Tree) × IsOfState H s state i j × HasRefused k keeper keeper_after × (out_after ≡ out)
-  -- a bag that is no state
-  ZeroEnds i j out out_after keeper keeper_after (status.Refused refusal) =
-      IsRefused H s (status.Refused refusal) i j × AreSame out out_after keeper keeper_after
-  -- want of memory: nothing stored, nothing printed
-  ZeroEnds i j out out_after keeper keeper_after status.Memory =
-      NoFault (s.faults i) (s.faults j) × IsKept k keeper keeper_after × (out_after ≡ out)
+module _ (H : List ℕ → Hash256) {K : Type 0} (k : KeeperGhosts K) (name : ZeroName) (state : Tree) {X : Type 0} where
+  -- the one entry is that of this state, listed whole, under its name, with this reply; and it follows the empty store
+  pub record IsEntry (reply : Reply) (journal : List (Entry X)) (old new : K) : Type 0 where
+    pub listed : PreparedView
+    pub lists : IsListOf H state listed
+    pub is : journal ≡ entry_of first_task (Zero (zero_id name (rep_of H state)) [] listed) reply ∷ []
+    pub leads : LeadsTo H k journal old new
 
--- how making a change and writing a text ends
-module _ {O K : Type 0} (o : SinkGhosts O) (k : KeeperGhosts K) (change : Change) (text : List ℕ) where
-  -- the change was made without a fault
-  pub record IsMade (old new : K) : Type 0 where
-    pub applied : IsApplied k.held k.trail k.batches change old new
+  -- stored: the keeper's contents are those of the world with the one block of this state
+  pub record IsStored (journal : List (Entry X)) (old new : K) : Type 0 where
+    pub entry : IsEntry reply.Stored journal old new
+    pub held : IfSome (k.held new) (IsContentsOf H (zero_world H name state))
     pub steady : NoFault (k.faults old) (k.faults new)
 
-  abbrev pub IsStoring : O → O → K → K → Status → Type 0
-  IsStoring out out_after keeper keeper_after status.Ok = IsMade keeper keeper_after × HasGot o text out out_after
-  IsStoring out out_after keeper keeper_after status.WriteFault =
-      IsMade keeper keeper_after × HasFailed o text out out_after
-  IsStoring out out_after keeper keeper_after status.KeeperFault =
-      HasRefused k keeper keeper_after × (out_after ≡ out)
-  IsStoring out out_after keeper keeper_after status.Memory = IsKept k keeper keeper_after × (out_after ≡ out)
-  IsStoring out out_after keeper keeper_after _ = ⊥
+  -- refused: the keeper holds what it held
+  pub record IsRefusedBy (why : Refusal) (journal : List (Entry X)) (old new : K) : Type 0 where
+    pub entry : IsEntry (reply.Refused why) journal old new
+    pub held : k.held new ≡ k.held old
+
+  -- how storing a listed state and writing its text ends
+  module _ {O : Type 0} (o : SinkGhosts O) where
+    abbrev pub StoringEnds : List (Entry X) → O → O → K → K → Status → Type 0
+    -- stored and printed
+    StoringEnds journal out out_after keeper keeper_after status.Ok =
+        IsStored journal keeper keeper_after × HasGot o (zero_text H name state) out out_after
+    -- the sink failed: stored, and a part of it printed
+    StoringEnds journal out out_after keeper keeper_after status.WriteFault =
+        IsStored journal keeper keeper_after × HasFailed o (zero_text H name state) out out_after
+    -- the keeper failed: nothing stored, nothing printed
+    StoringEnds journal out out_after keeper keeper_after status.KeeperFault =
+        IsRefusedBy store.Keeper journal keeper keeper_after × Rose (k.faults keeper) (k.faults keeper_after)
+        × (out_after ≡ out)
+    -- the store refused the state: nothing stored, nothing printed
+    StoringEnds journal out out_after keeper keeper_after (status.Refused (refusal.Core why)) =
+        IsRefusedBy why journal keeper keeper_after × (why ≢ store.Keeper)
+        × NoFault (k.faults keeper) (k.faults keeper_after) × (out_after ≡ out)
+    -- want of memory: no entry, nothing stored, nothing printed
+    StoringEnds journal out out_after keeper keeper_after status.Memory =
+        (journal ≡ []) × IsKept k keeper keeper_after × (out_after ≡ out)
+    -- nothing else can go wrong
+    StoringEnds journal out out_after keeper keeper_after _ = ⊥
+
+module _ (H : List ℕ → Hash256) {S O K X : Type 0} (s : SourceGhosts S) (o : SinkGhosts O) (k : KeeperGhosts K) (name : ZeroName) where
+  -- the input was a bag of a state, and storing it ended so
+  pub record IsTaken (i j : S) (out out_after : O) (keeper keeper_after : K) (journal : List (Entry X)) (end : Status)
+      : Type 0 where
+    pub state : Tree
+    pub input : IsOfState H s state i j
+    pub ends : StoringEnds H k name state o journal out out_after keeper keeper_after end
+
+  -- how the command `zero` ends, with what its words say of the block's name
+  abbrev pub ZeroEnds : S → S → O → O → K → K → List (Entry X) → Status → Type 0
+  -- never: these words are those of a command
+  ZeroEnds i j out out_after keeper keeper_after journal (status.Usage fault) = ⊥
+  -- too long
+  ZeroEnds i j out out_after keeper keeper_after journal (status.BadInput (input.Long limit)) =
+      (limit ≡ INPUT_LIMIT) × IsLong s i j × AreSame out out_after keeper keeper_after journal
+  -- no bag, by its first fault
+  ZeroEnds i j out out_after keeper keeper_after journal (status.BadInput (input.Bag fault)) =
+      IsRefused H s (status.BadInput (input.Bag fault)) i j × AreSame out out_after keeper keeper_after journal
+  -- the source failed
+  ZeroEnds i j out out_after keeper keeper_after journal status.ReadFault =
+      Rose (s.faults i) (s.faults j) × AreSame out out_after keeper keeper_after journal
+  -- a bag that is no state
+  ZeroEnds i j out out_after keeper keeper_after journal (status.Refused (refusal.Roots roots)) =
+      IsRefused H s (status.Refused (refusal.Roots roots)) i j × AreSame out out_after keeper keeper_after journal
+  ZeroEnds i j out out_after keeper keeper_after journal (status.Refused (refusal.Level mask)) =
+      IsRefused H s (status.Refused (refusal.Level mask)) i j × AreSame out out_after keeper keeper_after journal
+  -- want of memory: no entry, nothing stored, nothing printed
+  ZeroEnds i j out out_after keeper keeper_after journal status.Memory =
+      NoFault (s.faults i) (s.faults j) × (journal ≡ []) × IsKept k keeper keeper_after × (out_after ≡ out)
+  -- the state was taken: stored, or refused by the store, or the keeper or the sink failed
+  ZeroEnds i j out out_after keeper keeper_after journal end =
+      IsTaken i j out out_after keeper keeper_after journal end

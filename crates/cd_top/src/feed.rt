@@ -1,8 +1,9 @@
 ghost use Rattle.std.specs.Prelude.{◌≡◌, IfOk};
-ghost use Rattle.cd_top.specs.FeedCall.{text_of_feed, TextEnds, FeedEnds};
+ghost use Rattle.cd_top.specs.FeedCall.{text_of_feed, FeedEnds};
 
+use crate::printing::print;
 use crate::status::Status;
-use cd_base::{Memory, Sink, write_all};
+use cd_base::{Memory, Sink};
 use cd_feed::write_feed;
 use cd_gen::make_feed;
 use std::alloc::Global;
@@ -15,22 +16,12 @@ fn text_of(alloc: Global, number: u64) -> Result<Vec<u8>, Memory>
     write_feed(alloc, &feed)
 }
 
-/// Writes a text.
-fn put<O: Sink>(out: &mut O, text: &[u8]) -> Status
-    ensures { TextEnds O.Sink text.now out.old out.new result }
-{
-    match write_all(out, text) {
-        Err(_) => Status::WriteFault,
-        Ok(()) => Status::Ok,
-    }
-}
-
 /// The command `gen`: writes the text of the feed of a number.
 pub fn print_feed<O: Sink>(alloc: Global, number: u64, out: &mut O) -> Status
     ensures { FeedEnds O.Sink number out.old out.new result }
 {
     match text_of(alloc, number) {
         Err(_) => Status::Memory,
-        Ok(text) => put(out, &text),
+        Ok(text) => print(out, &text),
     }
 }

@@ -1,8 +1,10 @@
 ghost use Rattle.std.specs.Prelude.{◌≡◌, codes};
 ghost use Rattle.cd_top.specs.StatusText.{code_of, line_of};
+ghost use Rattle.cd_top.specs.StatusText as spec;
 
 use cd_boc_read::BagFault;
 use cd_cell::Mask;
+use cd_event::Refusal;
 use cd_words::WordFault;
 use thiserror::Error;
 
@@ -20,8 +22,8 @@ pub enum InputFault {
     Bag(BagFault),
 }
 
-/// Why the work was refused, though the input was good.
-#[derive(Clone, Copy, Debug, PartialEq, Eq, Error)]
+/// Why the work was refused, though the input was good. About 1.4 kilobytes, for the two faces of a clash.
+#[derive(Clone, Copy, Debug, Error)]
 pub enum TopRefusal {
     /// A state is one tree, and the bag has another number of roots.
     #[error("a bag of {roots} roots is no state")]
@@ -29,10 +31,13 @@ pub enum TopRefusal {
     /// The root of a state is of level 0, and this one has another mask.
     #[error("a root of mask {} is no state's", mask.byte())]
     Level { mask: Mask },
+    /// The store refused the event that was asked for.
+    #[error("the store refuses it: {0:?}")]
+    Core(Refusal),
 }
 
 /// How a call ended.
-#[derive(Clone, Copy, Debug, PartialEq, Eq)]
+#[derive(Clone, Copy, Debug)]
 pub enum Status {
     /// The input was read to its end, the work is done, and the output is written whole.
     Ok,
@@ -82,7 +87,28 @@ impl Status {
             Status::KeeperFault => "celldb: keeper fault\n",
             Status::Refused(TopRefusal::Roots { .. }) => "celldb: refused Roots\n",
             Status::Refused(TopRefusal::Level { .. }) => "celldb: refused Level\n",
+            Status::Refused(TopRefusal::Core(refusal)) => refused_line(refusal),
             Status::Memory => "celldb: no memory\n",
         }
+    }
+}
+
+/// The line for what the store refused: the refusal's name.
+fn refused_line(refusal: &Refusal) -> &'static str
+    ensures { result.now ≡ spec.refused_line refusal.now }
+{
+    match refusal {
+        Refusal::Known => "celldb: refused Known\n",
+        Refusal::Lineage(_) => "celldb: refused Lineage\n",
+        Refusal::ZeroHash { .. } => "celldb: refused ZeroHash\n",
+        Refusal::Clash { .. } => "celldb: refused Clash\n",
+        Refusal::CountFull { .. } => "celldb: refused CountFull\n",
+        Refusal::UnknownBlock => "celldb: refused UnknownBlock\n",
+        Refusal::PinsFull => "celldb: refused PinsFull\n",
+        Refusal::NoPin => "celldb: refused NoPin\n",
+        Refusal::WrongPin => "celldb: refused WrongPin\n",
+        Refusal::NotMaster => "celldb: refused NotMaster\n",
+        Refusal::TopMissing { .. } => "celldb: refused TopMissing\n",
+        Refusal::Keeper => "celldb: refused Keeper\n",
     }
 }

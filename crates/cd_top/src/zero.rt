@@ -1,22 +1,8 @@
-ghost use Rattle.std.specs.Prelude.{◌≡◌, ◌∷◌, [], false, ◌≤◌, length, IfOk};
-ghost use Rattle.cd_block.specs.Block.{key_of};
-ghost use Rattle.cd_block.specs.Description.{descr_text};
-ghost use Rattle.cd_cell.specs.Tree.{Tree};
-ghost use Rattle.std.specs.Prelude.{string_bytes};
-ghost use Rattle.std.specs.List.{IsDistinct};
-ghost use Rattle.std.specs.Map.{keys_of};
-ghost use Rattle.cd_keeper.specs.Shown as cells_put;
-ghost use Rattle.cd_keeper.specs.Shown.{hash_bytes};
-ghost use Rattle.cd_keeper.specs.NoKeyTwice.{same_key};
-ghost use Rattle.cd_top.specs.Zero.{zero_id, zero_descr, block_text, IsListOf, IsPlanOf};
+ghost use Rattle.std.specs.Prelude.{◌≡◌, IfOk, string_bytes};
+ghost use Rattle.cd_top.specs.Zero.{zero_id, block_text};
 
-use crate::counts::count_references;
-use crate::order::by_hash;
-use crate::records::records_of;
 use cd_base::{Hash256, Memory};
-use cd_block::{BlockId, BlockIds, Descr, ShardId, encode_descr, print_id};
-use cd_cell::{GREATEST_DEPTH, Hash32, MOST_CELLS, Prepared};
-use cd_keeper::Batch;
+use cd_block::{BlockId, ShardId, print_id};
 use std::alloc::Global;
 
 /// What words say of a zero state's name: the rest is the state's.
@@ -28,17 +14,8 @@ pub struct ZeroName {
     pub file: Hash256,
 }
 
-/// What storing a zero state takes.
-#[derive(Drop)]
-pub struct Plan {
-    /// The records of the state's cells, and the block's description.
-    pub batch: Batch,
-    /// What is printed.
-    pub text: String,
-}
-
 /// The name of the zero state with this root hash.
-fn id_of(name: ZeroName, root: Hash256) -> BlockId
+pub fn id_of(name: ZeroName, root: Hash256) -> BlockId
     ensures { result ≡ zero_id name root }
 {
     BlockId {
@@ -54,7 +31,7 @@ fn id_of(name: ZeroName, root: Hash256) -> BlockId
 
 /// The block's name and the number of its cells, a line each.
 #[tactic(auto, unfolding(crate::specs::Zero::block_text))]
-fn block_text(alloc: Global, id: &BlockId, cells: usize) -> Result<String, Memory>
+pub fn block_text(alloc: Global, id: &BlockId, cells: usize) -> Result<String, Memory>
     ensures { IfOk result (λ text. string_bytes text ≡ block_text id.now cells) }
 {
     let name = print_id(alloc, id)?;
@@ -64,54 +41,4 @@ fn block_text(alloc: Global, id: &BlockId, cells: usize) -> Result<String, Memor
     text.push_str(cells.to_string(alloc)?.as_str())?;
     text.push_str("\n")?;
     Ok(text)
-}
-
-/// The batch that puts these records, and the description of a zero state with this depth.
-fn batch_of(
-    alloc: Global,
-    puts: Vec<(Hash256, Vec<u8>)>,
-    id: BlockId,
-    depth: u16,
-) -> Result<Batch, Memory>
-    requires keys { IsDistinct same_key (keys_of (cells_put.entries_of hash_bytes puts.items)) }
-    requires depth { depth ≤ GREATEST_DEPTH }
-    ensures { IfOk result (λ batch. batch ≡ record {
-      put_cells = cells_put.entries_of hash_bytes puts.items;
-      drop_cells = [];
-      put_descs = (key_of id, descr_text (zero_descr id depth)) ∷ [];
-      drop_descs = [];
-    }) }
-{
-    let descr = Descr {
-        id,
-        parents: BlockIds::from(Vec::new(alloc)),
-        root: id.root,
-        depth,
-        tops: BlockIds::from(Vec::new(alloc)),
-        leaving: false,
-    };
-    let value = encode_descr(alloc, &descr)?;
-    let mut batch = Batch::from_parts(puts, Vec::new(alloc), Vec::new(alloc), Vec::new(alloc));
-    batch.put_desc(id.to_key(), value)?;
-    Ok(batch)
-}
-
-/// What storing a value as a zero state takes. Where it lists all cells of a state, this is the batch that makes the
-/// image of the world with that one block.
-pub fn plan_zero<H: Hash32>(
-    alloc: Global,
-    name: ZeroName,
-    value: &Prepared<H>,
-) -> Result<Plan, Memory>
-    requires few { length value.now.cells ≤ MOST_CELLS }
-    ensures { IfOk result (λ plan. (state : Tree) → IsListOf H.digest_of state value.now
-        → IsPlanOf H.digest_of name state plan.batch (string_bytes plan.text)) }
-{
-    let order = by_hash(alloc, value)?;
-    let counts = count_references(alloc, value, &order)?;
-    let puts = records_of(alloc, value, &order, &counts)?;
-    let id = id_of(name, value.root().rep());
-    let text = block_text(alloc, &id, order.len())?;
-    let batch = batch_of(alloc, puts, id, value.root().height())?;
-    Ok(Plan { batch, text })
 }

@@ -3,6 +3,7 @@ ghost use Rattle.cd_keeper.specs.Contents.{no_contents};
 
 use cd_base::{Hash256, MemorySink, MemorySource, Sink, Source, SteadySink, SteadySource};
 use cd_cell::Sha;
+use cd_event::{Entry, Event, Refusal, Reply};
 use cd_keeper::{KeepFault, Keeper, MemoryKeeper, SteadyKeeper};
 use cd_top::{Ended, Status, celldb_once};
 use std::alloc::Global;
@@ -31,17 +32,30 @@ fn zero<S: Source, O: Sink, K: Keeper>(
     input: &mut S,
     out: &mut O,
     keeper: K,
-) -> Result<(Status, K), Fail>
+) -> Result<Ended<K, Sha>, Fail>
     requires { IfSome (K.held keeper) (λ contents. contents ≡ no_contents) }
 {
     let mut words = Vec::new(alloc);
     words.push(String::from_str(alloc, "zero")?)?;
-    let Ended {
-        status,
-        keeper,
-        of: _,
-    } = celldb_once::<S, O, K, Sha>(alloc, &words, input, out, keeper);
-    Ok((status, keeper))
+    Ok(celldb_once::<S, O, K, Sha>(
+        alloc, &words, input, out, keeper,
+    ))
+}
+
+/// Whether the one entry is that of a zero state of so many listed cells, and was stored or refused for the keeper.
+fn is_only_entry(journal: &[Entry<Sha>], listed: usize, stored: bool) -> bool {
+    let [entry] = journal else {
+        return false;
+    };
+    let Event::Zero { id, tops, prepared } = &entry.event else {
+        return false;
+    };
+    let replied = match &entry.reply {
+        Reply::Stored => stored,
+        Reply::Refused(Refusal::Keeper) => !stored,
+        _ => false,
+    };
+    replied && id.seqno == 0 && tops.as_slice().is_empty() && prepared.cells().len() == listed
 }
 
 fn has_cell<K: Keeper>(keeper: &mut K, key: &Hash256, bytes: &[u8]) -> Result<bool, KeepFault> {
@@ -70,11 +84,16 @@ fn one_cell_is_stored_and_printed(rt: HostRuntime) -> Result<(), Fail> {
     let alloc = rt.alloc();
     let mut input = SteadySource::new(ONE_CELL.to_vec(alloc)?);
     let mut out = SteadySink::new(alloc);
-    let (status, mut keeper) = zero(alloc, &mut input, &mut out, SteadyKeeper::new(alloc))?;
-    assert!(rt; status == Status::Ok);
+    let Ended {
+        status,
+        mut keeper,
+        journal,
+    } = zero(alloc, &mut input, &mut out, SteadyKeeper::new(alloc))?;
+    assert!(rt; matches!(status, Status::Ok));
     assert!(rt; out.taken() == EMPTY_LINES.as_bytes());
     assert!(rt; has_cell(&mut keeper, &EMPTY, &[2, 0, 0, 0, 0, 0, 0, 0, 1, 0, 0])?);
     assert!(rt; keeper.batches() == 1);
+    assert!(rt; is_only_entry(&journal, 1, true));
     // The description has a version, the root and its depth.
     let mut due = [1, 0, 0].to_vec(alloc)?;
     due.extend_from_slice(&EMPTY.0)?;
@@ -89,8 +108,13 @@ fn a_child_in_four_places_counts_four(rt: HostRuntime) -> Result<(), Fail> {
     let alloc = rt.alloc();
     let mut input = SteadySource::new(FOUR_PLACES.to_vec(alloc)?);
     let mut out = SteadySink::new(alloc);
-    let (status, mut keeper) = zero(alloc, &mut input, &mut out, SteadyKeeper::new(alloc))?;
-    assert!(rt; status == Status::Ok);
+    let Ended {
+        status,
+        mut keeper,
+        journal,
+    } = zero(alloc, &mut input, &mut out, SteadyKeeper::new(alloc))?;
+    assert!(rt; matches!(status, Status::Ok));
+    assert!(rt; is_only_entry(&journal, 2, true));
     assert!(rt; has_cell(&mut keeper, &EMPTY, &[2, 0, 0, 0, 0, 0, 0, 0, 4, 0, 0])?);
     let (first, second) = first_cells(&mut keeper)?;
     let first = first.ok_or("no record")?;
@@ -110,8 +134,13 @@ fn a_source_that_fails_in_mid_stream_stores_nothing(rt: HostRuntime) -> Result<(
     let alloc = rt.alloc();
     let mut input = MemorySource::new(ONE_CELL.to_vec(alloc)?, [1].to_vec(alloc)?);
     let mut out = SteadySink::new(alloc);
-    let (status, mut keeper) = zero(alloc, &mut input, &mut out, SteadyKeeper::new(alloc))?;
-    assert!(rt; status == Status::ReadFault);
+    let Ended {
+        status,
+        mut keeper,
+        journal,
+    } = zero(alloc, &mut input, &mut out, SteadyKeeper::new(alloc))?;
+    assert!(rt; matches!(status, Status::ReadFault));
+    assert!(rt; journal.is_empty());
     assert!(rt; first_cells(&mut keeper)? == (None, None));
     assert!(rt; out.taken().is_empty());
     Ok(())
@@ -122,8 +151,13 @@ fn a_sink_that_fails_leaves_the_block_stored(rt: HostRuntime) -> Result<(), Fail
     let alloc = rt.alloc();
     let mut input = SteadySource::new(ONE_CELL.to_vec(alloc)?);
     let mut out = MemorySink::new(alloc, [0].to_vec(alloc)?);
-    let (status, mut keeper) = zero(alloc, &mut input, &mut out, SteadyKeeper::new(alloc))?;
-    assert!(rt; status == Status::WriteFault);
+    let Ended {
+        status,
+        mut keeper,
+        journal,
+    } = zero(alloc, &mut input, &mut out, SteadyKeeper::new(alloc))?;
+    assert!(rt; matches!(status, Status::WriteFault));
+    assert!(rt; is_only_entry(&journal, 1, true));
     assert!(rt; has_cell(&mut keeper, &EMPTY, &[2, 0, 0, 0, 0, 0, 0, 0, 1, 0, 0])?);
     Ok(())
 }
@@ -131,21 +165,23 @@ fn a_sink_that_fails_leaves_the_block_stored(rt: HostRuntime) -> Result<(), Fail
 #[test]
 fn a_keeper_that_fails_stores_nothing(rt: HostRuntime) -> Result<(), Fail> {
     let alloc = rt.alloc();
-    // The one call that it gets is the batch.
-    for failing in 0..3 {
+    // It is asked for the one hash, and then for the batch.
+    for failing in 0..4 {
         let mut input = SteadySource::new(ONE_CELL.to_vec(alloc)?);
         let mut out = SteadySink::new(alloc);
         let keeper = MemoryKeeper::new(alloc, [failing].to_vec(alloc)?);
-        let (status, mut keeper) = zero(alloc, &mut input, &mut out, keeper)?;
-        let due = if failing == 0 {
-            Status::KeeperFault
-        } else {
-            Status::Ok
-        };
-        assert!(rt; status == due);
-        assert!(rt; keeper.faults() == u64::from(failing == 0));
-        assert!(rt; keeper.batches() == u64::from(failing > 0));
-        assert!(rt; out.taken().is_empty() == (failing == 0));
+        let Ended {
+            status,
+            mut keeper,
+            journal,
+        } = zero(alloc, &mut input, &mut out, keeper)?;
+        let failed = failing < 2;
+        assert!(rt; matches!(status, Status::KeeperFault) == failed);
+        assert!(rt; matches!(status, Status::Ok) != failed);
+        assert!(rt; is_only_entry(&journal, 1, !failed));
+        assert!(rt; keeper.faults() == u64::from(failed));
+        assert!(rt; keeper.batches() == u64::from(!failed));
+        assert!(rt; out.taken().is_empty() == failed);
         let found = keeper.at(keeper.batches())?.is_some();
         assert!(rt; found);
     }

@@ -1,11 +1,12 @@
 -- Trusted: what a run of the program does: how its call ends, its exit status, and its line on standard error.
-use Rattle.std.specs.Prelude.{◌≡◌, ◌⊎◌, ℕ, List, Some}
+use Rattle.std.specs.Prelude.{◌≡◌, ◌⊎◌, ℕ, List}
 use Rattle.cd_base.specs.declared.hash.Hash256.{Hash256}
 use Rattle.cd_base.specs.declared.source.Source.{Ghosts as SourceGhosts}
 use Rattle.cd_base.specs.declared.sink.Sink.{Ghosts as SinkGhosts}
 use Rattle.cd_base.specs.Counts.{Rose}
 use Rattle.cd_base.specs.Told.{Got, GotPart}
 use Rattle.cd_keeper.specs.declared.keeper.Keeper.{Ghosts as KeeperGhosts}
+use Rattle.cd_event.specs.declared.entry.Entry.{Entry}
 use Rattle.cd_top.specs.declared.status.Status.{Status}
 use Rattle.cd_top.specs.declared.status.Status.TheVariants as status
 use Rattle.cd_top.specs.StatusText.{code_of, line_of}
@@ -18,12 +19,13 @@ HasSaid e status old new =
     Got (e.taken old) (e.taken new) (line_of status)
     ⊎ (Rose (e.faults old) (e.faults new) × GotPart (e.taken old) (e.taken new) (line_of status))
 
-module _ (H : List ℕ → Hash256) {S O E K : Type 0} (s : SourceGhosts S) (o : SinkGhosts O) (e : SinkGhosts E) (k : KeeperGhosts K) where
+module _ (H : List ℕ → Hash256) {S O E K : Type 0} (s : SourceGhosts S) (o : SinkGhosts O) (e : SinkGhosts E) (k : KeeperGhosts K) (X : Type 0) where
   -- the call ended with this status, which is told by the exit status and the line on standard error
   pub record IsRun (words : List (List ℕ)) (i j : S) (out out_after : O) (err err_after : E) (kept : K) (code : ℕ) : Type 0 where
     pub status : Status
     pub kept_after : K
-    pub ended : Ends H s o k words i j out out_after kept kept_after status
+    pub journal : List (Entry X)
+    pub ended : Ends H s o k words i j out out_after kept kept_after journal status
     pub coded : code ≡ code_of status
     pub said : HasSaid e status err err_after
 

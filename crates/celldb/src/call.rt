@@ -67,7 +67,7 @@ pub fn run<S: Source, O: Sink, E: Sink, K: Keeper, H: Hash32>(
 ) -> ExitCode
     requires empty { IfSome (K.held keeper) (λ contents. contents ≡ no_contents) }
     ensures call { page_of (map string_bytes words.now) ≡ None
-        → IsRun H.digest_of S.Source O.Sink E.Sink K.Keeper (map string_bytes words.now)
+        → IsRun H.digest_of S.Source O.Sink E.Sink K.Keeper H (map string_bytes words.now)
         input.old input.new out.old out.new err.old err.new keeper (exit_status result) }
     ensures page { page_of (map string_bytes words.now) ≢ None
         → IsPage S.Source O.Sink E.Sink input.old input.new out.old out.new err.old err.new (exit_status result) }
@@ -78,7 +78,7 @@ pub fn run<S: Source, O: Sink, E: Sink, K: Keeper, H: Hash32>(
     let Ended {
         status,
         keeper: _,
-        of: _,
+        journal: _,
     } = celldb_once::<S, O, K, H>(alloc, words, input, out, keeper);
     end(status, err)
 }

@@ -2,11 +2,11 @@ use Rattle.std.proofs.Common.{◌∷◌, [], ◌++◌, map, take, get_or, ap, ap
 use Rattle.std.proofs.lemmas.List.{get_or-map, take_more, map-append}
 use Rattle.cd_cell.specs.Listings.{no_cell}
 use Rattle.cd_gen.specs.Keys.{listed_cell, cell_at}
-use Rattle.cd_gen.specs.declared.key.Key.{Key}
+use Rattle.cd_cell.specs.declared.export_key.ExportKey.{ExportKey}
 use Rattle.cd_gen.proofs.export.cells_of.Goals as goal
 
-abbrev blank : Key
-blank = record { place = record { lowness = 0; hash = record { 0 = [] } }; number = 0 }
+abbrev blank : ExportKey
+blank = record { rank = record { lowness = 0; hash = record { 0 = [] } }; number = 0 }
 
 pub loop-key-preserved : goal.loop-key-preserved
 loop-key-preserved c =

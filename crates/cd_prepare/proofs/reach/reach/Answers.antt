@@ -4,7 +4,7 @@ use Rattle.cd_cell.specs.declared.info.ChildInfo.{ChildInfo}
 use Rattle.cd_cell.specs.FaceView.{FaceView}
 use Rattle.cd_cell.specs.CellFaults.{no_info, kid_at}
 use Rattle.cd_cell.specs.Bags.{no_face, face_at, ref_at}
-use Rattle.cd_prepare.specs.Keys.{entry_key}
+use Rattle.cd_cell.specs.Keys.{export_key}
 use Rattle.cd_prepare.specs.Reached.{keys_with}
 use Rattle.cd_prepare.proofs.ReachLaws.{IsWalked-first, IsWalked-more, IsWalked-next, IsWalked-skip, AreReached-walked}
 use Rattle.cd_prepare.proofs.reach.reach.Goals as goal
@@ -23,7 +23,7 @@ loop-number-init g c =
     let none : c.in_ok-reached.reached.marks.items ≡ replicate (length c.args.root.now.bag.now.cells) false = c.in_ok-reached.ensures.marks ∙ ap (λ n. replicate n false) count in
     IsWalked-first g.H.Hash32.digest_of c.args.root.now.bag.now.cells c.args.root.now.bag.now.refs c.args.root.now.number c.mark.new.self.marks.items c.mark.new.self.keys.items c.args.root.now.info c.args.root.now.there c.args.root.now.shown
     (c.in_ok-mark.ensures.marks ∙ ap (λ ms. slice_set ms c.args.root.now.number true) none)
-    (c.in_ok-mark.ensures.keys ∙ ap₂ (λ ms ks. keys_with ms ks (entry_key c.args.root.now.info c.args.root.now.number)) none c.in_ok-reached.ensures.keys)
+    (c.in_ok-mark.ensures.keys ∙ ap₂ (λ ms ks. keys_with ms ks (export_key c.args.root.now.info c.args.root.now.number)) none c.in_ok-reached.ensures.keys)
 
 pub loop-place-preserved : goal.loop-place-preserved
 loop-place-preserved g c =
@@ -40,7 +40,7 @@ loop-place-preserved g c =
     c.loop-place.reached.keys.items c.mark-in-loop-place.new.self.keys.items c.kid-item.result in-cells in-kids c.loop-place.invariant.1
     (kid_is (face_at bag.cells number) c.kids-kid-items.result.now place c.kid-item.result kids-are c.loop-place-test.true c.kid-item.is)
     (c.in_ok-mark-2.ensures.marks ∙ ap (λ (r : ℕ). slice_set c.loop-place.reached.marks.items r true) ref-is)
-    (c.in_ok-mark-2.ensures.keys ∙ ap (λ (r : ℕ). keys_with c.loop-place.reached.marks.items c.loop-place.reached.keys.items (entry_key c.kid-item.result r)) ref-is)
+    (c.in_ok-mark-2.ensures.keys ∙ ap (λ (r : ℕ). keys_with c.loop-place.reached.marks.items c.loop-place.reached.keys.items (export_key c.kid-item.result r)) ref-is)
     c.loop-place.invariant.0
 
 pub loop-number-preserved : goal.loop-number-preserved

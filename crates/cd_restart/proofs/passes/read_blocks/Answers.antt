@@ -3,8 +3,9 @@ use Rattle.std.specs.FinMap as finite
 use Rattle.cd_block.specs.declared.description.Descr.{Descr}
 use Rattle.cd_keeper.specs.Contents.{Contents}
 use Rattle.cd_restart.specs.ScanFaults.{desc_fault}
-use Rattle.cd_restart.specs.Walks.{IsNext, IsBlockNext, AreBlocksRead}
+use Rattle.cd_restart.specs.Walks.{IsNext, IsBlockNext, AreBlocksRead, AreBlocksTo}
 use Rattle.cd_restart.proofs.PassSteps.{blocks-start, blocks-more}
+use Rattle.cd_restart.proofs.BlocksInOrder.{none-to, more-to, fit-to}
 use Rattle.cd_restart.proofs.ToldContents.{if_some-all, if_some-both}
 use Rattle.cd_restart.proofs.passes.read_blocks.Goals as goal
 
@@ -12,6 +13,7 @@ pub reading-init : goal.reading-init
 reading-init g c = record {
   read = if_some-all (λ (contents : Contents). AreBlocksRead (finite.entries contents.descs) None c.new-all.result.items) (g.K.Keeper.held c.args.keeper.now)
       (λ contents. subst (AreBlocksRead (finite.entries contents.descs) None) (sym c.new-all.ensures.items) (blocks-start (finite.entries contents.descs)));
+  to = subst (AreBlocksTo None) (sym c.new-all.ensures.items) none-to;
   keeps = record { same_held = refl; same_trail = refl; same_batches = refl };
   steady = refl;
 }
@@ -35,6 +37,9 @@ reading-preserved g c =
           subst (λ (x : List ℕ × List Descr). AreBlocksRead es (Some x.0) x.1)
           (ap₂ (λ (k : List ℕ) (ds : List Descr). (k, ds)) (sym c.to_key.ensures) (sym c.in_ok-push.ensures.items))
           (blocks-more es after blocks.items a block is));
+      to = subst (λ (x : List ℕ × List Descr). AreBlocksTo (Some x.0) x.1)
+          (ap₂ (λ (k : List ℕ) (ds : List Descr). (k, ds)) (sym c.to_key.ensures) (sym c.in_ok-push.ensures.items))
+          (more-to after blocks.items block so.to (rw c.in-Some.is at step.above));
       keeps = record {
         same_held = step.keeps.same_held ∙ so.keeps.same_held;
         same_trail = step.keeps.same_trail ∙ so.keeps.same_trail;
@@ -42,3 +47,6 @@ reading-preserved g c =
       };
       steady = step.cause.steady ∙ so.steady;
     }
+
+pub returns-in_default-clause-written : goal.returns-in_default-clause-written
+returns-in_default-clause-written g c = let so = c.reading.invariant in fit-to c.reading.after c.reading.all.items so.to

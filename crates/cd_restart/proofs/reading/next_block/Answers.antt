@@ -1,10 +1,11 @@
-use Rattle.std.proofs.Common.{◌≡◌, [], length, sym, ap, ◌∙◌, subst}
+use Rattle.std.proofs.Common.{◌≡◌, ℕ, List, [], length, sym, ap, ◌∙◌, subst}
 use Rattle.std.specs.Option.{option_map}
 use Rattle.std.specs.FinMap as finite
 use Rattle.cd_base.specs.Numbers.{IsBytes}
 use Rattle.cd_block.specs.Reading.{descr_in}
 use Rattle.cd_block.proofs.Keys.{length-key_of}
-use Rattle.cd_keeper.specs.Contents.{Contents, next_entry}
+use Rattle.std.specs.Prelude.{IsTrue}
+use Rattle.cd_keeper.specs.Contents.{Contents, next_entry, is_above}
 use Rattle.cd_keeper.specs.Shown.{entry_of, desc_bytes}
 use Rattle.cd_restart.specs.Answers.{Refuses}
 use Rattle.cd_restart.specs.Lists.{first_of}
@@ -50,3 +51,12 @@ returns-clause-next g c =
     (λ contents is. subst (Refuses (first_of desc_fault (above after (finite.entries contents.descs)))) (sym c.of_descr.ensures)
     (block-refuses contents.descs after found.0 value.items c.in-Err.fault (sym is ∙ ap (option_map (entry_of desc_bytes)) c.in-Some.is)
     (λ other. ap (descr_in found.0) (sym c.as_slice-2.ensures.value) ∙ c.in-Err.ensures.exact other)))
+
+pub returns-in-Ok-clause-above : goal.returns-in-Ok-clause-above
+returns-in-Ok-clause-above g c =
+    let both = c.in-Ok.ensures.found in
+    record {
+      is = both.0;
+      fit = both.1;
+      above = subst (λ (key : List ℕ). IsTrue (is_above c.args.after key)) both.2 (rw c.in-Some.is at c.in_ok-found.ensures.above);
+    }

@@ -14,7 +14,7 @@ returns-in-Ok-prepare_zero-clause-found g c =
     let state = state-of H (bag_trees bag) c.in-Ok-prepare_zero.ensures.exact in
     let spelt = subst (λ b. Spells H b (bag_trees bag)) c.deref.ensures.value c.in-Ok.ensures.found in
     let clear = subst (AreClashFree H) state.1 c.in-Ok-prepare_zero.ensures.clear in
-    (state.0, record { bag = subst (Spells H c.args.bytes.items) state.1 spelt; level = state.2 }, record { clear = clear; whole = c.in-Ok-prepare_zero.ensures.whole state.0 state.1 })
+    (state.0, record { bag = subst (Spells H c.args.bytes.items) state.1 spelt; level = state.2 }, record { new = c.in-Ok-prepare_zero.ensures.old; clear = clear; whole = c.in-Ok-prepare_zero.ensures.whole state.0 state.1 })
 
 pub returns-clause-refused : goal.returns-clause-refused
 returns-clause-refused g c =

@@ -1,0 +1,4 @@
+pub mod MetEntries
+pub mod Batches
+pub mod Way
+pub mod Kept

@@ -1,0 +1,4 @@
+pub mod Answers
+pub mod Rewritten
+pub mod Walking
+pub mod Worlds

@@ -1,0 +1,8 @@
+pub mod Lists
+pub mod Names
+pub mod CoverLaws
+pub mod EarlyLaws
+pub mod StageLaws
+pub mod KeeperLaws
+pub mod CallLaws
+pub mod PreparingLaws

@@ -1,0 +1,7 @@
+pub mod Words
+pub mod Prepared
+pub mod Runs
+pub mod Ends
+pub mod Stages
+pub mod Covers
+pub mod ReportText

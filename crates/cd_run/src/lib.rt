@@ -1,0 +1,17 @@
+//! Tasks of a feed over any worker's turns: their entries, their outcomes, and the text of the report.
+#![tactic(auto)]
+
+mod expire_task;
+mod holdup;
+mod laws;
+mod outcome;
+mod reporting;
+mod task;
+mod words;
+mod zero_task;
+
+pub use holdup::{Holdup, NoHoldup};
+pub use laws::{a_begun_journal_covers_the_feed_so_far, a_cut_journal_covers_the_feed};
+pub use outcome::{Outcome, TaskRefusal};
+pub use reporting::report;
+pub use task::do_task;

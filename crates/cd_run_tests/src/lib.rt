@@ -1,0 +1,5 @@
+//! Tests of tasks and the report.
+#![tactic(auto)]
+
+#[cfg(test)]
+mod report;

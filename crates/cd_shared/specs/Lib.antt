@@ -1,0 +1,2 @@
+pub mod SharedTurns
+pub mod Going
