@@ -96,6 +96,7 @@ fn next_value(alloc: Global) -> Option<Value> {
 }
 
 /// A worker at work: its seat, its numbers by chance, its pins with the blocks' seqnos, and whether all was well.
+#[derive(Drop)]
 struct Worker {
     seat: Seat,
     worker: u16,
@@ -172,7 +173,7 @@ impl Worker {
         }
     }
 
-    fn work<R: Wait>(mut self, rt: &R, db: &Db, alloc: Global, calls: u16, workers: u16) -> Seat2 {
+    fn work<R: Wait>(mut self, rt: &R, db: &Db, alloc: Global, calls: u16, workers: u16) -> Done {
         for task in 0..calls {
             self.call(rt, db, alloc, task, workers);
         }
@@ -181,12 +182,13 @@ impl Worker {
             let (pin, _) = self.pins[place];
             self.well &= db.unpin(rt, &mut self.seat, at, pin).is_ok();
         }
-        Seat2 { seat: self.seat, well: self.well }
+        Done { seat: self.seat, well: self.well }
     }
 }
 
 /// A seat, and whether all that was done with it was well.
-struct Seat2 {
+#[derive(Drop)]
+struct Done {
     seat: Seat,
     well: bool,
 }
@@ -208,7 +210,7 @@ fn spread<R: Threads + Wait + Sync>(
     lowest: u16,
     end: u16,
     round: Round,
-) -> Seat2 {
+) -> Done {
     if end - lowest == 1 {
         let worker = Worker {
             seat,
@@ -228,7 +230,7 @@ fn spread<R: Threads + Wait + Sync>(
         || spread(rt, db, alloc, high, middle, end, round),
     );
     db.join(&mut low.seat, high.seat);
-    Seat2 { seat: low.seat, well: low.well && high.well }
+    Done { seat: low.seat, well: low.well && high.well }
 }
 
 /// Makes an entry's call again.
@@ -278,13 +280,13 @@ fn empty(alloc: Global) -> Option<Held> {
 
 /// The entries of a round, if all is well.
 fn play<R: Threads + Wait + Sync>(rt: &R, alloc: Global, round: Round) -> Option<u64> {
+    let first = zero_value(alloc)?;
     let core = empty(alloc)?;
     let (db, mut seat) = match SharedDb::new(alloc, core, round.workers) {
         Ok(made) => made,
         Err(_) => return None,
     };
     let at = At { phase: 0, task: 0 };
-    let first = zero_value(alloc)?;
     let stored = db.zero(rt, &mut seat, at, block(0, 0), BlockIds::new(alloc), first).is_ok();
     let done = spread(rt, &db, alloc, seat, 0, round.workers, round);
     let front = done.seat.front();
