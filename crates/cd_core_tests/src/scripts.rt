@@ -23,7 +23,7 @@ pub(crate) enum Deed {
     /// A block over the pinned state with this root.
     Merge(u64, Name, &'static [Cell], Root),
     /// A block over the left and the right state.
-    MergeBoth([u64; 2], Name, &'static [Cell], [Root; 2]),
+    MergeBoth((u64, u64), Name, &'static [Cell], (Root, Root)),
     Unpin(u64),
     Expire(Name),
 }
@@ -81,9 +81,17 @@ fn act(alloc: Global, core: &mut Weak, worker: u16, deed: &Deed) -> Result<bool,
         Deed::Merge(pin, name, cells, root) => {
             merge(alloc, core, worker, (pin, None), name, cells, (root, None))?
         }
-        Deed::MergeBoth([left, right], name, cells, roots) => {
-            let roots = (roots[0], Some(roots[1]));
-            merge(alloc, core, worker, (left, Some(right)), name, cells, roots)?
+        Deed::MergeBoth(pins, name, cells, roots) => {
+            let pins = (pins.0, Some(pins.1));
+            merge(
+                alloc,
+                core,
+                worker,
+                pins,
+                name,
+                cells,
+                (roots.0, Some(roots.1)),
+            )?
         }
         Deed::Unpin(pin) => {
             let _ = core.unpin(who(worker), pin);
@@ -242,10 +250,11 @@ fn has_blocks(
 ) -> Result<bool, Fail> {
     let mut after = None;
     for (name, leaving) in due {
-        let Some((key, text)) = keeper.next_desc(after)? else {
+        let Some(found) = keeper.next_desc(after)? else {
             return Ok(false);
         };
-        let descr = decode_descr(alloc, &key, text.as_slice())?;
+        let key = found.0;
+        let descr = decode_descr(alloc, &key, found.1.as_slice())?;
         if descr.id != name.id() || descr.leaving != *leaving {
             return Ok(false);
         }

@@ -19,21 +19,21 @@ pub(crate) const ONE: [Cell; 1] = [Cell::Plain(&[1], &[])];
 
 /// The update of w(03) to itself.
 const STAYS: [Cell; 3] = [
-    Cell::Update((3, 0), (3, 0), [1, 2]),
+    Cell::Update((3, 0), (3, 0)),
     Cell::Pruned((3, 0)),
     Cell::Pruned((3, 0)),
 ];
 
 /// The updates of w(03) to w(35) and to w(36), each over w(22).
 const TO_LEFT: [Cell; 4] = [
-    Cell::Update((3, 0), (0x35, 1), [1, 2]),
+    Cell::Update((3, 0), (0x35, 1)),
     Cell::Pruned((3, 0)),
     Cell::Plain(&[0x10], &[3]),
     Cell::Plain(&[0x20], &[]),
 ];
 
 const TO_RIGHT: [Cell; 4] = [
-    Cell::Update((3, 0), (0x36, 1), [1, 2]),
+    Cell::Update((3, 0), (0x36, 1)),
     Cell::Pruned((3, 0)),
     Cell::Plain(&[0x11], &[3]),
     Cell::Plain(&[0x20], &[]),
@@ -309,14 +309,14 @@ const TWO: [Cell; 1] = [Cell::Plain(&[2], &[])];
 
 /// The update of the joined state to itself.
 const JOINED_STAYS: [Cell; 3] = [
-    Cell::Update((0xc4, 1), (0xc4, 1), [1, 2]),
+    Cell::Update((0xc4, 1), (0xc4, 1)),
     Cell::Pruned((0xc4, 1)),
     Cell::Pruned((0xc4, 1)),
 ];
 
 /// The update of the joined state, of which the root is shown, to another root over both halves.
 const JOINED_OPENED: [Cell; 5] = [
-    Cell::Update((0xc4, 1), (0x1b, 1), [1, 2]),
+    Cell::Update((0xc4, 1), (0x1b, 1)),
     Cell::Above(&[0x5f, 0x32, 0x7d, 0xa5], &[3, 4]),
     Cell::Above(&[0x10], &[3, 4]),
     Cell::Pruned((3, 0)),
@@ -337,22 +337,22 @@ pub(crate) const MERGED: Script = Script {
         Step(2, Deed::Pin(OTHER_HALF), Due::Pinned(2)),
         Step(
             1,
-            Deed::MergeBoth([1, 0], JOINED, &JOINED_STAYS, [(4, 0), (3, 0)]),
+            Deed::MergeBoth((1, 0), JOINED, &JOINED_STAYS, ((4, 0), (3, 0))),
             Due::Shard,
         ),
         Step(
             1,
-            Deed::MergeBoth([0, 0], JOINED, &JOINED_STAYS, [(3, 0), (4, 0)]),
+            Deed::MergeBoth((0, 0), JOINED, &JOINED_STAYS, ((3, 0), (4, 0))),
             Due::NoPin,
         ),
         Step(
             1,
-            Deed::MergeBoth([0, 2], JOINED, &JOINED_STAYS, [(3, 0), (4, 0)]),
+            Deed::MergeBoth((0, 2), JOINED, &JOINED_STAYS, ((3, 0), (4, 0))),
             Due::NoPin,
         ),
         Step(
             1,
-            Deed::MergeBoth([0, 1], JOINED, &JOINED_STAYS, [(3, 0), (4, 0)]),
+            Deed::MergeBoth((0, 1), JOINED, &JOINED_STAYS, ((3, 0), (4, 0))),
             Due::Stored,
         ),
         Step(1, Deed::Unpin(0), Due::NoPin),
@@ -379,7 +379,7 @@ pub(crate) const MERGED_ANEW: Script = Script {
         Step(1, Deed::Pin(OTHER_HALF), Due::Pinned(1)),
         Step(
             1,
-            Deed::MergeBoth([0, 1], OPENED, &JOINED_OPENED, [(3, 0), (4, 0)]),
+            Deed::MergeBoth((0, 1), OPENED, &JOINED_OPENED, ((3, 0), (4, 0))),
             Due::Stored,
         ),
     ],
@@ -403,7 +403,7 @@ const FIVE_BITS: [Cell; 1] = [Cell::Plain(&[5], &[])];
 
 /// The update of w(04) to itself.
 const OTHER_STAYS: [Cell; 3] = [
-    Cell::Update((4, 0), (4, 0), [1, 2]),
+    Cell::Update((4, 0), (4, 0)),
     Cell::Pruned((4, 0)),
     Cell::Pruned((4, 0)),
 ];
@@ -432,7 +432,7 @@ pub(crate) const MERGED_AND_COLLECTED: Script = Script {
         Step(2, Deed::Expire(MASTER), Due::Expired(2)),
         Step(
             1,
-            Deed::MergeBoth([0, 1], JOINED, &JOINED_STAYS, [(3, 0), (4, 0)]),
+            Deed::MergeBoth((0, 1), JOINED, &JOINED_STAYS, ((3, 0), (4, 0))),
             Due::Stored,
         ),
         Step(1, Deed::Pin(HALF), Due::UnknownBlock),

@@ -22,8 +22,8 @@ pub(crate) enum Cell {
     Above(&'static [u8], &'static [u8]),
     /// The pruned branch of a state.
     Pruned(Root),
-    /// The update of a state to another one, over its halves.
-    Update(Root, Root, [u8; 2]),
+    /// The update of a state to another one, over its halves, which are the cells 1 and 2.
+    Update(Root, Root),
 }
 
 /// What a pruned branch or an update has of a root.
@@ -42,12 +42,11 @@ fn push_cell(text: &mut Vec<u8>, cell: &Cell) -> Result<(), AllocError> {
             push_root(text, root.0)?;
             text.extend_from_slice(&[0, root.1])
         }
-        Cell::Update(old, new, kids) => {
+        Cell::Update(old, new) => {
             text.extend_from_slice(&[10, 138, 4])?;
             push_root(text, old.0)?;
             push_root(text, new.0)?;
-            text.extend_from_slice(&[0, old.1, 0, new.1])?;
-            text.extend_from_slice(&kids)
+            text.extend_from_slice(&[0, old.1, 0, new.1, 1, 2])
         }
     }
 }
@@ -124,6 +123,7 @@ pub(crate) fn update(
 
 /// The face of a cell of whole bytes without children.
 pub(crate) fn leaf(bytes: &[u8]) -> Option<Face> {
-    let bits = Bits::from_slice(bytes, bytes.len().saturating_mul(8) as u16)?;
+    let len = u16::try_from(bytes.len().saturating_mul(8)).ok()?;
+    let bits = Bits::from_slice(bytes, len)?;
     Some(Face::new(false, bits, &[]))
 }

@@ -5,7 +5,7 @@ ghost use Rattle.cd_cell.specs.Listings.{Fits};
 use cd_base::Hash256;
 use cd_block::{BlockId, ShardId};
 use cd_boc_read::read_bag;
-use cd_cell::{Bag, Bits, Face, Prepared, WeakSum};
+use cd_cell::{Bag, Bits, Face, Hash32, Prepared, WeakSum};
 use cd_core::Core;
 use cd_keeper::SteadyKeeper;
 use cd_prepare::prepare_zero;
@@ -43,10 +43,10 @@ pub(crate) fn block_id() -> BlockId {
 }
 
 /// The state, prepared.
-pub(crate) fn state(alloc: Global) -> Result<Prepared<WeakSum>, Fail>
-    ensures fits { IfOk result (λ value. Fits WeakSum.digest_of value.root value.cells []) }
+pub(crate) fn state<H: Hash32>(alloc: Global) -> Result<Prepared<H>, Fail>
+    ensures fits { IfOk result (λ value. Fits H.digest_of value.root value.cells []) }
 {
-    let bag: Bag<WeakSum> = match read_bag(alloc, &BAG) {
+    let bag: Bag<H> = match read_bag(alloc, &BAG) {
         Ok(bag) => bag,
         Err(_) => return Err(Fail::from("no bag")),
     };
