@@ -1,7 +1,8 @@
 ghost use Rattle.std.specs.Prelude.{◌≡◌, ◌+◌, ◌++◌, length, codes, OnOk, IfOk, string_bytes};
 ghost use Rattle.std.specs.Fmt.{decimal};
 ghost use Rattle.cd_block.specs.Spelling.{id_text};
-ghost use Rattle.inspect_feed.specs.FeedTexts.{said_text, task_line, worker_lines, phase_lines, phase_tasks, feed_tasks, feed_lines, TellsFeed};
+ghost use Rattle.inspect_feed.specs.FeedTexts.{said_text, task_line, worker_lines, phase_lines};
+ghost use Rattle.inspect_feed.specs.FeedTexts.{phase_tasks, feed_tasks, feed_lines, TellsFeed};
 
 use crate::reading::feed_of;
 use cd_block::{BlockId, BlockIds, print_id};
@@ -34,7 +35,8 @@ fn with_number(mut text: String, name: &str, number: usize) -> Result<String, Al
 /// A text with the numbers of some tops and of the bytes of a bag behind it.
 fn with_sizes(text: String, tops: &BlockIds, bag: &Bytes) -> Result<String, AllocError>
     ensures { IfOk result (λ longer. string_bytes longer
-        ≡ string_bytes text ++ codes " tops " ++ decimal (length tops.now) ++ codes " bag " ++ decimal (length bag.now)) }
+        ≡ string_bytes text ++ codes " tops " ++ decimal (length tops.now)
+        ++ codes " bag " ++ decimal (length bag.now)) }
 {
     with_number(with_number(text, " tops ", tops.len())?, " bag ", bag.len())
 }
