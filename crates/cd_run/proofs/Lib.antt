@@ -6,3 +6,4 @@ pub mod StageLaws
 pub mod KeeperLaws
 pub mod CallLaws
 pub mod PreparingLaws
+pub mod PinLaws

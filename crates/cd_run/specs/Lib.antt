@@ -1,5 +1,6 @@
 pub mod Words
 pub mod Prepared
+pub mod Finds
 pub mod Runs
 pub mod Ends
 pub mod Stages

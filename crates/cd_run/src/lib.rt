@@ -5,6 +5,8 @@ mod expire_task;
 mod holdup;
 mod laws;
 mod outcome;
+mod pinned;
+mod read_task;
 mod reporting;
 mod task;
 mod words;

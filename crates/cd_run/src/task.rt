@@ -5,6 +5,7 @@ ghost use Rattle.cd_run.specs.Runs.{Did, is_done_here};
 use crate::expire_task::do_expire;
 use crate::holdup::Holdup;
 use crate::outcome::Outcome;
+use crate::read_task::do_read;
 use crate::zero_task::do_zero;
 use cd_base::Memory;
 use cd_event::{Turns, Who};
@@ -33,7 +34,7 @@ pub fn do_task<T: Turns, P: Holdup>(
         }
         Task::Expire { id } => do_expire(turns, who, *id),
         Task::Block { .. } => unreachable!(),
-        Task::Read { .. } => unreachable!(),
+        Task::Read { id, path } => do_read(alloc, turns, who, *id, path.as_slice()),
         Task::Slice { .. } => unreachable!(),
         Task::Serve { .. } => unreachable!(),
         Task::Merged { .. } => unreachable!(),
