@@ -7,3 +7,4 @@ pub mod KeeperLaws
 pub mod CallLaws
 pub mod PreparingLaws
 pub mod PinLaws
+pub mod CutLaws

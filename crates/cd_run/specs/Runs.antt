@@ -247,6 +247,7 @@ abbrev pub is_done_here : Task → Bool
 is_done_here (task.Zero id tops bag) = true
 is_done_here (task.Expire id) = true
 is_done_here (task.Read id path) = true
+is_done_here (task.Slice id max) = true
 is_done_here _ = false
 
 -- whether the keeper failed one of some entries

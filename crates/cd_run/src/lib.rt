@@ -8,6 +8,7 @@ mod outcome;
 mod pinned;
 mod read_task;
 mod reporting;
+mod slice_task;
 mod task;
 mod words;
 mod zero_task;

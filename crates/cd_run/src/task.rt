@@ -6,6 +6,7 @@ use crate::expire_task::do_expire;
 use crate::holdup::Holdup;
 use crate::outcome::Outcome;
 use crate::read_task::do_read;
+use crate::slice_task::do_slice;
 use crate::zero_task::do_zero;
 use cd_base::Memory;
 use cd_event::{Turns, Who};
@@ -35,7 +36,7 @@ pub fn do_task<T: Turns, P: Holdup>(
         Task::Expire { id } => do_expire(turns, who, *id),
         Task::Block { .. } => unreachable!(),
         Task::Read { id, path } => do_read(alloc, turns, who, *id, path.as_slice()),
-        Task::Slice { .. } => unreachable!(),
+        Task::Slice { id, max } => do_slice(alloc, turns, who, *id, *max),
         Task::Serve { .. } => unreachable!(),
         Task::Merged { .. } => unreachable!(),
     }
