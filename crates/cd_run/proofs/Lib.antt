@@ -8,3 +8,4 @@ pub mod CallLaws
 pub mod PreparingLaws
 pub mod PinLaws
 pub mod CutLaws
+pub mod SentLaws

@@ -117,6 +117,10 @@ module _ {S H : Type 0} (worker faults : S → ℕ) (made : S → List (Entry H)
     are = (on.asked, on.last, few (sum on.asked + on.last) on.counts, refl);
   }
 
+  pub looks_named : (failed : Bool) (who : Who) (pin : ℕ) (x y : S) (before after : ℕ) → LooksFor worker faults made goes named failed who pin x y before after → named y ≡ named x
+  looks_named false who pin x y before after on = on.same.same_named
+  looks_named true who pin x y before after on = on.same.same_named
+
   -- ---- the pin
 
   module _ (digest : List ℕ → Hash256) (at : At) (id : BlockId) (old new : S) where

@@ -248,6 +248,7 @@ is_done_here (task.Zero id tops bag) = true
 is_done_here (task.Expire id) = true
 is_done_here (task.Read id path) = true
 is_done_here (task.Slice id max) = true
+is_done_here (task.Serve id max) = true
 is_done_here _ = false
 
 -- whether the keeper failed one of some entries

@@ -8,6 +8,7 @@ mod outcome;
 mod pinned;
 mod read_task;
 mod reporting;
+mod serve_task;
 mod slice_task;
 mod task;
 mod words;
