@@ -6,3 +6,11 @@ pub mod StageLaws
 pub mod KeeperLaws
 pub mod CallLaws
 pub mod PreparingLaws
+mod TurnLaws
+mod FaceLaws
+mod UpdateLaws
+mod ParentLaws
+mod GatherLaws
+mod MergeLaws
+mod BlockLaws
+mod TaskLaws

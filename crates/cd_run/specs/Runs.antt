@@ -246,6 +246,7 @@ module _ {H : Type 0} (digest : List ℕ → Hash256) (pins : List Named) (who :
 -- the kinds of tasks that are done here by now
 abbrev pub is_done_here : Task → Bool
 is_done_here (task.Zero id tops bag) = true
+is_done_here (task.Block id parent tops bag) = true
 is_done_here (task.Expire id) = true
 is_done_here _ = false
 

@@ -2,6 +2,7 @@ ghost use Rattle.std.specs.Prelude.{◌≡◌, true};
 ghost use Rattle.cd_feed.specs.Feeds.{IsTaskFit};
 ghost use Rattle.cd_run.specs.Runs.{Did, is_done_here};
 
+use crate::block_task::do_block;
 use crate::expire_task::do_expire;
 use crate::holdup::Holdup;
 use crate::outcome::Outcome;
@@ -19,7 +20,7 @@ pub fn do_task<T: Turns, P: Holdup>(
     turns: &mut T,
     who: Who,
     task: &Task,
-    _holdup: &P,
+    holdup: &P,
 ) -> Result<Outcome, Memory>
     requires worker { T.worker turns.old ≡ who.worker }
     requires within { IsTaskFit task.now }
@@ -32,7 +33,21 @@ pub fn do_task<T: Turns, P: Holdup>(
             do_zero(alloc, turns, who, *id, tops.as_slice(), bag.as_slice())
         }
         Task::Expire { id } => do_expire(turns, who, *id),
-        Task::Block { .. } => unreachable!(),
+        Task::Block {
+            id,
+            parent,
+            tops,
+            bag,
+        } => do_block(
+            alloc,
+            turns,
+            who,
+            *id,
+            *parent,
+            tops.as_slice(),
+            bag.as_slice(),
+            holdup,
+        ),
         Task::Read { .. } => unreachable!(),
         Task::Slice { .. } => unreachable!(),
         Task::Serve { .. } => unreachable!(),
