@@ -2,6 +2,7 @@
 use Rattle.std.proofs.Common.{◌≡◌, ⊎_elim, ℕ, zero, suc, ◌+◌, ◌-◌, ◌<◌, ◌≤◌, Bool, true, false, List, [], ◌∷◌, ◌++◌, length, take, drop, Option, Some, refl, sym, ap, ◌∙◌, arith}
 use Rattle.std.specs.Prelude.{Contains, slice_get, if◌then◌else◌}
 use Rattle.std.proofs.lemmas.Bool.{cases_lt}
+use Rattle.std.proofs.lemmas.List.{take_at}
 use Rattle.std.proofs.lemmas.Option.{none-some, same_Some, slice_get-get_or}
 use Rattle.cd_base.specs.declared.hash.Hash256.{Hash256}
 use Rattle.cd_cell.specs.FaceView.{FaceView}
@@ -31,6 +32,10 @@ module _ {X : Type 0} where
 
   pub take-upto : (a b : ℕ) (xs : List X) → a ≤ b → take b xs ≡ take a xs ++ take (b - a) (drop a xs)
   take-upto a b xs le = ap (λ m. take m xs) (let z : b ≡ a + (b - a) = omega arith in z) ∙ take-more a (b - a) xs
+
+-- a list that was written in its place
+pub written_is : {X : Type 0} (len : ℕ) (items new : List X) → len ≡ length items → length new ≡ length items → take len (new ++ drop (length new) items) ≡ new
+written_is len items new fits same = ap (λ n. take n (new ++ drop (length new) items)) (fits ∙ sym same) ∙ take_at new (drop (length new) items) (length new) refl
 
 module _ (digest : List ℕ → Hash256) (t : Tree) where
   pub faces-append : (hs gs : List Hash256) (fs es : List (Option FaceView)) → length fs ≡ length hs → AreFacesOf digest t hs fs → AreFacesOf digest t gs es → AreFacesOf digest t (hs ++ gs) (fs ++ es)

@@ -14,3 +14,7 @@ mod GatherLaws
 mod MergeLaws
 mod BlockLaws
 mod TaskLaws
+mod SplitLaws
+mod JoinLaws
+mod TwoPins
+mod MergedLaws

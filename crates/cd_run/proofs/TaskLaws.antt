@@ -10,3 +10,9 @@ unfolding IsTaskFit
 block_tops job id parent tops seen bag is same fit =
     let both : IsTopsFit id tops × IsBagFit bag = subst IsTaskFit is fit in
     subst (IsTopsFit id) (sym same) both.0
+
+pub merged_tops : (job : Task) (id left right : BlockId) (tops seen : List BlockId) (bag : List ℕ) → job ≡ task.Merged id left right tops bag → seen ≡ tops → IsTaskFit job → IsTopsFit id seen
+unfolding IsTaskFit
+merged_tops job id left right tops seen bag is same fit =
+    let both : IsTopsFit id tops × IsBagFit bag = subst IsTaskFit is fit in
+    subst (IsTopsFit id) (sym same) both.0

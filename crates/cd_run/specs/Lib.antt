@@ -4,5 +4,6 @@ pub mod Runs
 pub mod Ends
 pub mod Stages
 pub mod Merging
+pub mod Joining
 pub mod Covers
 pub mod ReportText

@@ -248,6 +248,7 @@ abbrev pub is_done_here : Task → Bool
 is_done_here (task.Zero id tops bag) = true
 is_done_here (task.Block id parent tops bag) = true
 is_done_here (task.Expire id) = true
+is_done_here (task.Merged id left right tops bag) = true
 is_done_here _ = false
 
 -- whether the keeper failed one of some entries

@@ -7,6 +7,7 @@ mod gather;
 mod holdup;
 mod laws;
 mod merge_words;
+mod merged_task;
 mod outcome;
 mod parent;
 mod reporting;

@@ -5,6 +5,7 @@ ghost use Rattle.cd_run.specs.Runs.{Did, is_done_here};
 use crate::block_task::do_block;
 use crate::expire_task::do_expire;
 use crate::holdup::Holdup;
+use crate::merged_task::do_merged;
 use crate::outcome::Outcome;
 use crate::zero_task::do_zero;
 use cd_base::Memory;
@@ -51,6 +52,22 @@ pub fn do_task<T: Turns, P: Holdup>(
         Task::Read { .. } => unreachable!(),
         Task::Slice { .. } => unreachable!(),
         Task::Serve { .. } => unreachable!(),
-        Task::Merged { .. } => unreachable!(),
+        Task::Merged {
+            id,
+            left,
+            right,
+            tops,
+            bag,
+        } => do_merged(
+            alloc,
+            turns,
+            who,
+            *id,
+            *left,
+            *right,
+            tops.as_slice(),
+            bag.as_slice(),
+            holdup,
+        ),
     }
 }
