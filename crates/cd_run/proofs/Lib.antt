@@ -9,3 +9,15 @@ pub mod PreparingLaws
 pub mod PinLaws
 pub mod CutLaws
 pub mod SentLaws
+mod TurnLaws
+mod FaceLaws
+mod UpdateLaws
+mod ParentLaws
+mod GatherLaws
+mod MergeLaws
+mod BlockLaws
+mod TaskLaws
+mod SplitLaws
+mod JoinLaws
+mod TwoPins
+mod MergedLaws

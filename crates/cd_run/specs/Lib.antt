@@ -5,5 +5,7 @@ pub mod Runs
 pub mod Clients
 pub mod Ends
 pub mod Stages
+pub mod Merging
+pub mod Joining
 pub mod Covers
 pub mod ReportText

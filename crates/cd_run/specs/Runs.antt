@@ -242,15 +242,6 @@ module _ {H : Type 0} (digest : List ℕ → Hash256) (pins : List Named) (who :
   TaskAnswers job es (Ok end) = TaskRun job es end
   TaskAnswers job es (Err memory) = TaskBegun job es
 
--- the kinds of tasks that are done here by now
-abbrev pub is_done_here : Task → Bool
-is_done_here (task.Zero id tops bag) = true
-is_done_here (task.Expire id) = true
-is_done_here (task.Read id path) = true
-is_done_here (task.Slice id max) = true
-is_done_here (task.Serve id max) = true
-is_done_here _ = false
-
 -- whether the keeper failed one of some entries
 abbrev pub has_failed : {H : Type 0} → List (Entry H) → Bool
 has_failed [] = false
