@@ -14,7 +14,7 @@ use cd_feed::Task;
 use std::alloc::Global;
 
 /// Does a task: its entries, under the name `who`, and how it ended. Want of memory ends it where it comes. By now zero
-/// states and expiries are done; no other kind is handed in yet.
+/// states, blocks and expiries are done; no other kind is handed in yet.
 #[tactic(auto, unfolding(cd_feed::specs::Feeds::IsTaskFit))]
 pub fn do_task<T: Turns, P: Holdup>(
     alloc: Global,
