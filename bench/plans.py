@@ -112,21 +112,21 @@ fn main(rt: HostRuntime) -> ExitCode {
 """
 
 
-def built(folder):
-    """The program, built in a copy of the repository."""
+def built(folder, name, files, libraries):
+    """A program of these files, built in a copy of the repository."""
     crates = pathlib.Path(folder) / "crates"
     shutil.copytree(TOP / "crates", crates, ignore=shutil.ignore_patterns("out"))
-    source = crates / "plan_bench/src"
-    source.mkdir(parents=True)
-    (source / "main.rt").write_text(PROGRAM)
-    (crates.parent / "crates.txt").write_text((TOP / "crates.txt").read_text() + f"plan_bench: {LIBRARIES}\n")
+    for file, text in files.items():
+        (crates / name / file).parent.mkdir(parents=True, exist_ok=True)
+        (crates / name / file).write_text(text)
+    (crates.parent / "crates.txt").write_text((TOP / "crates.txt").read_text() + f"{name}: {libraries}\n")
     shutil.copy(TOP / "HANDLES", crates.parent)
     subprocess.run(["git", "init", "-q", folder], check=True)
-    run = subprocess.run(["rt", "run"], cwd=crates / "plan_bench", stdin=subprocess.DEVNULL, capture_output=True, text=True)
-    program = crates / "plan_bench/out/plan_bench"
-    if not program.exists():
+    run = subprocess.run(["rt", "run"], cwd=crates / name, stdin=subprocess.DEVNULL, capture_output=True, text=True)
+    made = crates / name / "out" / name
+    if not made.exists():
         sys.exit(f"the program isn't built: {run.stdout[-2000:]}{run.stderr[-2000:]}")
-    return str(program)
+    return str(made)
 
 
 def make(updates):
@@ -157,11 +157,12 @@ def main():
     words.add_argument("--times", type=int, default=7)
     given = words.parse_args()
     with tempfile.TemporaryDirectory() as folder, make(given.updates) as lines:
-        program = built(folder)
+        program = built(folder, "plan_bench", {"src/main.rt": PROGRAM}, LIBRARIES)
         kinds = ("prepare", "plan", "batch")
         runs = [[seconds(program, kind, lines.name) for kind in kinds] for _ in range(given.times)]
     prepare, plan, batch = (1e6 * min(times) / given.updates for times in zip(*runs))
     print(f"a plan of 191 new cells: {plan - prepare:.0f} microseconds of the processor, and its batch {batch - plan:.0f}")
 
 
-main()
+if __name__ == "__main__":
+    main()
