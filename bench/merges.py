@@ -28,9 +28,9 @@ use cd_block::{BlockId, BlockIds, Descr, ShardId};
 use cd_boc_read::read_bag;
 use cd_cell::{Bag, Prepared, Sha};
 use cd_core::Core;
-use cd_count::plan_add;
+use cd_count::{Plan, plan_add};
 use cd_event::Who;
-use cd_keeper::{Keeper, SteadyKeeper};
+use cd_keeper::{Batch, Keeper, SteadyKeeper};
 use cd_prepare::{prepare_update, prepare_zero};
 use cd_record::GREATEST_COUNT;
 use cd_update::Update;
@@ -52,10 +52,15 @@ fn bag_of(alloc: Global, line: &[u8]) -> Option<Bag<Sha>> {
     read_bag::<Sha>(alloc, &bytes).ok()
 }
 
+/// The batch of a plan alone.
+fn batch_of(alloc: Global, plan: Plan) -> Option<Batch> {
+    plan.into_batch(alloc, Vec::new(alloc), Vec::new(alloc)).ok()
+}
+
 /// Stores a state's cells.
 fn store(alloc: Global, keeper: &mut SteadyKeeper, value: &Prepared<Sha>) -> Option<()> {
     let plan = plan_add(alloc, keeper, value, GREATEST_COUNT).ok()?;
-    let batch = plan.into_batch(alloc, Vec::new(alloc), Vec::new(alloc)).ok()?;
+    let batch = batch_of(alloc, plan)?;
     keeper.apply(&batch).ok()
 }
 
@@ -200,7 +205,7 @@ def main():
     words.add_argument("--updates", type=int, default=300)
     words.add_argument("--times", type=int, default=7)
     given = words.parse_args()
-    files = {"src/main.rt": PROGRAM, "src/quiet.rt": QUIET}
+    files = plans.files_of("merge_bench", PROGRAM, **{"src/quiet.rt": QUIET})
     with tempfile.TemporaryDirectory() as folder, plans.make(given.updates) as lines:
         program = plans.built(folder, "merge_bench", files, LIBRARIES)
         runs = [[plans.seconds(program, kind, lines.name) for kind in ("prepare", "merge")] for _ in range(given.times)]
