@@ -1,16 +1,15 @@
 -- What a pruned branch of mask 1, and cells over such branches, show at level 0.
-use Rattle.std.proofs.Common.{◌≡◌, ℕ, ◌+◌, ◌*◌, ◌<◌, ◌++◌, Bool, true, false, List, [], ◌∷◌, length, get_or, take, drop, ap, ap₂, sym, ◌∙◌, subst, refl, arith}
-use Rattle.std.specs.Prelude.{nat_lt, slice_index, if◌then◌else◌, Option, Some, None}
+use Rattle.std.proofs.Common.{◌≡◌, ℕ, ◌+◌, ◌*◌, ◌<◌, ◌++◌, Bool, true, false, List, [], ◌∷◌, length, take, drop, ap, ap₂, ◌∙◌, refl, arith}
+use Rattle.std.specs.Prelude.{nat_lt, slice_index, if◌then◌else◌, Some, None}
 use Rattle.std.proofs.lemmas.List.{length-append, get_or-append_right, take_at}
 use Rattle.cd_base.specs.declared.hash.Hash256.{Hash256}
 use Rattle.cd_cell.specs.declared.info.ChildInfo.{ChildInfo}
-use Rattle.cd_cell.specs.declared.kind.Kind.{Kind}
 use Rattle.cd_cell.specs.declared.kind.Kind.TheVariants.{Pruned}
-use Rattle.cd_cell.specs.BitText.{data_of, first_bits}
+use Rattle.cd_cell.specs.BitText.{data_of}
 use Rattle.cd_cell.specs.FaceView.{FaceView}
 use Rattle.cd_cell.specs.Infos.{info_hash, info_depth}
 use Rattle.cd_cell.specs.Masks.{lowest_bits, bit_count}
-use Rattle.cd_cell.specs.Levels.{exotic_kind, kind_of_face, is_pruned, mask_by_kind, mask_of_face, stated_or, pruned_hash, pruned_depth, plain_hash, plain_depth, representation, info_of_face}
+use Rattle.cd_cell.specs.Levels.{exotic_kind, kind_of_face, is_pruned, mask_by_kind, mask_of_face, plain_hash, plain_depth, representation, info_of_face}
 use Rattle.cd_cell.proofs.BitLemmas.{length-first_bits}
 use Rattle.cd_gen.specs.States.{sha, bits_of}
 use Rattle.cd_gen.specs.Listing.{hash_bytes, depth_bytes, at_level_0}

@@ -1,10 +1,9 @@
-use Rattle.std.proofs.Common.{◌≡◌, ℕ, ◌-◌, ◌∷◌, ◌++◌, [], true, Result, Ok, Err, OnOk, ap, ap₂, sym, subst, ◌∙◌}
+use Rattle.std.proofs.Common.{ℕ, ◌-◌, ◌∷◌, ◌++◌, [], true, Result, Ok, Err, OnOk, ap, ap₂, ◌∙◌}
 use Rattle.cd_cell.specs.declared.info.ChildInfo.{ChildInfo}
 use Rattle.cd_cell.specs.FaceView.{FaceView}
 use Rattle.cd_cell.specs.Tree.{Tree}
-use Rattle.cd_gen.specs.declared.updates.Block.{Block}
-use Rattle.cd_gen.specs.States.{bits_of, hash_text, depth_text, full, state_of, shown, update_between, update_of}
-use Rattle.cd_gen.specs.Listing.{hash_bytes, depth_bytes, infos_of, faces, IsListed}
+use Rattle.cd_gen.specs.States.{bits_of, hash_text, depth_text, state_of, shown, update_between, update_of}
+use Rattle.cd_gen.specs.Listing.{hash_bytes, depth_bytes, faces, IsListed}
 use Rattle.cd_gen.specs.Generated.{update_bag}
 use Rattle.cd_gen.proofs.ListingLaws.{listed-pair, first-listed}
 use Rattle.cd_gen.proofs.chain.update_of.Goals as goal

@@ -1,9 +1,7 @@
-use Rattle.std.proofs.Common.{◌≡◌, ◌+◌, ◌-◌, ◌^◌, ◌++◌, ℕ, true, false, length, IfOk, ap, ap₂, sym, subst, ◌∙◌, arith}
-use Rattle.std.proofs.lemmas.Result.{IfOk-weaker}
-use Rattle.cd_cell.specs.Levels.{info_of_face}
+use Rattle.std.proofs.Common.{◌≡◌, ◌+◌, ◌-◌, ◌^◌, ◌++◌, ℕ, true, false, length, IfOk, ap, sym, subst, ◌∙◌, arith}
 use Rattle.cd_cell.specs.Tree.{Tree, info_of}
-use Rattle.cd_gen.specs.States.{sha, bits_of, leaf_text, leaf, over, is_written, full, pruned, shown}
-use Rattle.cd_gen.specs.Listing.{infos_of, pruned_face, at_level_0, IsListed, IsListedAfter}
+use Rattle.cd_gen.specs.States.{sha, bits_of, leaf_text, leaf, over, is_written, full, shown}
+use Rattle.cd_gen.specs.Listing.{infos_of, IsListedAfter}
 use Rattle.cd_gen.proofs.ListingLaws.{turned-some, length-infos_of, full-plain, after-hidden, after-alone, after-pair}
 use Rattle.cd_gen.proofs.WriterLaws.{writer_of-written, writer_of-other, asked, none_written, one_written, full-same, full-leaf, full-over, twice-half, shown-hidden, shown-leaf, shown-over}
 use Rattle.cd_gen.proofs.updates.+list_after.Goals as goal
