@@ -86,7 +86,7 @@ fn fill(faces: &mut [Option<Face>], others: &[Option<Face>])
     }
 }
 
-/// The value of an update over the joined state of two pinned parents, by the cells that are looked up there.
+/// The value of an update over the joined state of two pinned parents, by the cells that are looked up in both.
 fn prepare_joined<T: Turns>(
     alloc: Global,
     turns: &mut T,
