@@ -6,7 +6,7 @@
 At the top of the repository. It makes a crate with the program below in a copy of the repository's crates and runs it by
 `rt try`, which proves nothing and builds it with checks of indices, sums and memory. In each round so many threads (16)
 make so many calls each (200) in any order of turns: they pin blocks, look cells up, end pins, store blocks over pinned
-parents and zero states, and expire. Then the core is closed, its journal is played again on a core of one thread, and
+parents, and expire. Then the core is closed, its journal is played again on a core of one thread, and
 each reply, the pins and what the keeper holds are compared. Rounds go on for so many seconds (60). It is no part of the gate.
 """
 import argparse
@@ -46,7 +46,7 @@ type Db = SharedDb<SteadyKeeper, WeakSum>;
 type Seat = DbSeat<SteadyKeeper, WeakSum>;
 type Value = Prepared<WeakSum>;
 
-/// The root of every state: 8 bits 01, or 8 bits of a worker's own over it.
+/// A bag of the root of every state, which has the 8 bits 01.
 const ROOT: [u8; 14] = [0xb5, 0xee, 0x9c, 0x72, 1, 1, 1, 1, 0, 3, 0, 0, 2, 1];
 
 fn weak(byte: u8) -> Hash256 {
