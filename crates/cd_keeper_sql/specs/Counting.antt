@@ -1,5 +1,5 @@
 -- Trusted: how a call's answer raises a keeper's count of faults.
-use Rattle.std.specs.Prelude.{ℕ, Result, Ok, Err}
+use Rattle.std.specs.Prelude.{◌≡◌, ℕ, Result, Ok, Err}
 use Rattle.cd_base.specs.Counts.{one_more}
 use Rattle.cd_keeper.specs.declared.fault.KeepFault.{KeepFault}
 use Rattle.cd_keeper.specs.declared.fault.KeepFault.TheVariants.{Failed, Memory}
@@ -9,3 +9,7 @@ abbrev pub count_after : {T : Type 0} → ℕ → Result T KeepFault → ℕ
 count_after count (Ok value) = count
 count_after count (Err Failed) = one_more count
 count_after count (Err Memory) = count
+
+-- nothing was counted yet, of batches, faults and reads
+abbrev pub IsUncounted : ℕ → ℕ → ℕ → Type 0
+IsUncounted batches faults reads = (batches ≡ 0) × (faults ≡ 0) × (reads ≡ 0)

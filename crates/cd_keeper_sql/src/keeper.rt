@@ -2,7 +2,7 @@ ghost use Rattle.std.specs.Prelude.{◌≡◌, IsTrue, IfOk, IfSome};
 ghost use Rattle.std.specs.Option.{option_map};
 ghost use Rattle.cd_keeper.specs.Contents.{is_above};
 ghost use Rattle.cd_keeper.specs.Shown.{hash_bytes};
-ghost use Rattle.cd_keeper_sql.specs.Counting.{count_after};
+ghost use Rattle.cd_keeper_sql.specs.Counting.{count_after, IsUncounted};
 
 use crate::database::{Database, KeyAndValue};
 use crate::keys::{desc_key_above, hash_above};
@@ -26,7 +26,9 @@ pub struct SqlKeeperOver<C: Database> {
 impl<S: Alter + Drop> SqlKeeperOver<Connection<S>> {
     /// A keeper over an open database. Both tables are made where they aren't there. `Failed` where the database
     /// refuses that: a table of these names with other columns, say.
-    pub fn over(database: Connection<S>) -> Result<SqlKeeperOver<Connection<S>>, KeepFault> {
+    pub fn over(database: Connection<S>) -> Result<SqlKeeperOver<Connection<S>>, KeepFault>
+        ensures new { IfOk result (λ keeper. IsUncounted keeper.batches keeper.faults keeper.reads) }
+    {
         let mut database = database;
         match Statements::prepare(&mut database) {
             Ok(statements) => Ok(SqlKeeperOver::new(database, statements)),
@@ -38,7 +40,7 @@ impl<S: Alter + Drop> SqlKeeperOver<Connection<S>> {
 impl<C: Database> SqlKeeperOver<C> {
     /// A keeper over a database and the statements that were prepared for it.
     pub fn new(database: C, statements: Statements) -> SqlKeeperOver<C>
-        ensures { (result.batches ≡ 0) × (result.faults ≡ 0) × (result.reads ≡ 0) }
+        ensures { IsUncounted result.batches result.faults result.reads }
     {
         SqlKeeperOver {
             database,
