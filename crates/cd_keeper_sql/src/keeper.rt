@@ -1,6 +1,7 @@
-ghost use Rattle.std.specs.Prelude.{◌≡◌, IsTrue, IfOk, IfSome};
+ghost use Rattle.std.specs.Prelude.{◌≡◌, IsTrue, IfOk, IfSome, None, OnOk, OnErr};
 ghost use Rattle.std.specs.Option.{option_map};
 ghost use Rattle.cd_keeper.specs.Contents.{is_above};
+ghost use Rattle.cd_keeper.specs.Keeping.{HasKeepCause, IsApplied, KeepsHeld};
 ghost use Rattle.cd_keeper.specs.Shown.{hash_bytes};
 ghost use Rattle.cd_keeper_sql.specs.Counting.{count_after, IsUncounted};
 
@@ -156,7 +157,16 @@ impl<C: Database> Keeper for SqlKeeperOver<C> {
         found
     }
 
-    fn apply(&mut self, batch: &Batch) -> Result<(), KeepFault> {
+    fn apply(&mut self, batch: &Batch) -> Result<(), KeepFault>
+        // The whole batch is one step of the database, also where it is stopped in its middle.
+        ensures whole { C.is_one_step self.old.database self.new.database result }
+        ensures done { OnOk result (IsApplied (λ _. None) (λ _. None) (λ keeper. keeper.batches)
+            batch.now self.old self.new) }
+        ensures undone { OnErr result (KeepsHeld (λ _. None) (λ _. None) (λ keeper. keeper.batches)
+            self.old self.new) }
+        ensures reads { self.new.reads ≡ self.old.reads }
+        ensures cause { HasKeepCause self.old.faults self.new.faults result }
+    {
         let done = self.database.write(&self.statements, batch);
         count_fault(&mut self.faults, &done);
         if done.is_ok() {
