@@ -37,9 +37,7 @@ fn zero<S: Source, O: Sink, K: Keeper>(
 {
     let mut words = Vec::new(alloc);
     words.push(String::from_str(alloc, "zero")?)?;
-    Ok(celldb_once::<S, O, K, Sha>(
-        alloc, &words, input, out, keeper,
-    ))
+    Ok(celldb_once::<S, O, K, Sha>(alloc, &words, input, out, keeper))
 }
 
 /// Whether the one entry is that of a zero state of so many listed cells, and was stored or refused for the keeper.
