@@ -1,3 +1,3 @@
 pub mod PinLaws
 pub mod TaskLaws
-pub mod LaneLaws
+pub mod WorkerLaws

@@ -1,5 +1,5 @@
 -- A worker's tasks: under more pins, and one more at the end.
-use Rattle.std.proofs.Common.{◌≡◌, ◌⊎◌, inl, inr, ⊎_elim, ℕ, suc, ◌+◌, List, [], ◌∷◌, ◌++◌, length, refl, sym, ap, subst, ◌∙◌, append-nil, append_assoc, arith}
+use Rattle.std.proofs.Common.{◌≡◌, inl, inr, ⊎_elim, ℕ, suc, ◌+◌, List, [], ◌∷◌, ◌++◌, length, refl, sym, ap, subst, ◌∙◌, append-nil, append_assoc, arith}
 use Rattle.cd_base.specs.declared.hash.Hash256.{Hash256}
 use Rattle.cd_event.specs.declared.entry.Entry.{Entry}
 use Rattle.cd_event.specs.Pins.{Named}
@@ -35,9 +35,16 @@ module _ {H : Type 0} (digest : List ℕ → Hash256) (pins : List Named) (p w :
       let number : n + 0 ≡ n = omega arith in
       (xs, [], end, [], subst (λ m. TaskRun digest pins (name p w m) job xs end) number run, (refl, refl), ap (λ l. l ++ xs) is ∙ sym (append-nil xs), ap (λ l. l ++ end ∷ []) are)
   tasks_push n (first ∷ jobs) es ends job xs end (us, vs, its, others, its_run, rest, is, are) run =
-      let number : n + suc (length jobs) ≡ n + 1 + length jobs = omega arith in
-      (us, vs ++ xs, its, others ++ end ∷ [], its_run, tasks_push (n + 1) jobs vs others job xs end rest (subst (λ m. TaskRun digest pins (name p w m) job xs end) number run),
-        ap (λ l. l ++ xs) is ∙ append_assoc us vs xs, ap (λ l. l ++ end ∷ []) are)
+      let number : n + suc (length jobs) ≡ n + 1 + length jobs = omega arith in (
+        us,
+        vs ++ xs,
+        its,
+        others ++ end ∷ [],
+        its_run,
+        tasks_push (n + 1) jobs vs others job xs end rest (subst (λ m. TaskRun digest pins (name p w m) job xs end) number run),
+        ap (λ l. l ++ xs) is ∙ append_assoc us vs xs,
+        ap (λ l. l ++ end ∷ []) are,
+      )
 
   -- whole tasks, and then the first entries of one more
   pub begun_push : (n : ℕ) (jobs later : List Task) (es : List (Entry H)) (ends : List Outcome) (job : Task) (xs : List (Entry H))

@@ -1,5 +1,5 @@
 -- Trusted: what a worker does in a phase of a feed: its tasks, each with its entries and its end.
-use Rattle.std.specs.Prelude.{◌≡◌, ℕ, ◌+◌, Bool, true, false, List, [], ◌∷◌, ◌++◌}
+use Rattle.std.specs.Prelude.{◌≡◌, ℕ, ◌+◌, List, [], ◌∷◌, ◌++◌}
 use Rattle.cd_base.specs.declared.hash.Hash256.{Hash256}
 use Rattle.cd_event.specs.declared.entry.Entry.{Entry}
 use Rattle.cd_event.specs.Pins.{Named}
@@ -8,7 +8,6 @@ use Rattle.cd_feed.specs.declared.feed.Task.{Task}
 use Rattle.cd_run.specs.declared.outcome.Outcome.{Outcome}
 use Rattle.cd_run.specs.Covers.{name, WorkerBegun}
 use Rattle.cd_run.specs.Runs.{TaskRun, has_failed}
-use Rattle.cd_lanes.specs.declared.lane.Lane.{Lane}
 
 module _ {H : Type 0} (digest : List ℕ → Hash256) (pins : List Named) (phase worker : ℕ) where
   -- a worker's tasks from a number on, in order, each with its entries and its end
@@ -18,29 +17,25 @@ module _ {H : Type 0} (digest : List ℕ → Hash256) (pins : List Named) (phase
       × TaskRun digest pins (name phase worker n) job xs end × TasksRun (n + 1) jobs ys others
       × (es ≡ xs ++ ys) × (ends ≡ end ∷ others)
 
-  -- all of them, or, where memory ran out, the first entries
-  abbrev pub LaneRun : Bool → List Task → List (Entry H) → List Outcome → Type 0
-  LaneRun false jobs es ends = TasksRun 0 jobs es ends
-  LaneRun true jobs es ends = WorkerBegun digest pins phase worker 0 jobs es
-
-module _ {T : Type 0} (worker : T → ℕ) where
-  -- a lane with which a phase may begin
-  pub record IsLaneReady (lane : Lane T) : Type 0 where
-    pub its_worker : worker lane.seat ≡ lane.worker
-    pub no_outcomes : lane.outcomes.items ≡ []
-    pub no_want : lane.memory ≡ false
-
-module _ {T H : Type 0} (digest : List ℕ → Hash256) (worker faults : T → ℕ) (goes : T → T → Type 0)
-    (made : T → List (Entry H)) (named : T → List Named) where
-  -- what a lane did in a phase: its pins and entries grew by those of its tasks, and its keeper failed where an entry
-  -- says so
-  pub record LaneDid (phase : ℕ) (jobs : List Task) (old new : Lane T) : Type 0 where
-    pub same_place : new.worker ≡ old.worker
-    pub same_worker : worker new.seat ≡ worker old.seat
-    pub went : goes old.seat new.seat
+module _ {S H : Type 0} (digest : List ℕ → Hash256) (worker faults : S → ℕ) (made : S
+    → List (Entry H)) (goes : S → S → Type 0) (named : S → List Named) where
+  -- a worker went on: its pins and entries grew, these are such entries, and its keeper failed where one says so
+  pub record WentOn (Are : List (Entry H) → Type 0) (old new : S) : Type 0 where
+    pub same_worker : worker new ≡ worker old
+    pub went : goes old new
     pub pins : List Named
-    pub pinned : named new.seat ≡ named old.seat ++ pins
+    pub pinned : named new ≡ named old ++ pins
     pub entries : List (Entry H)
-    pub added : made new.seat ≡ made old.seat ++ entries
-    pub run : LaneRun digest (named new.seat) phase old.worker new.memory jobs entries new.outcomes.items
-    pub caused : RisesOnly (has_failed entries) (faults old.seat) (faults new.seat)
+    pub added : made new ≡ made old ++ entries
+    pub are : Are entries
+    pub caused : RisesOnly (has_failed entries) (faults old) (faults new)
+
+  -- it did all its tasks of a phase, which ended so
+  abbrev pub WorkerDone : ℕ → ℕ → List Task → List Outcome → S → S → Type 0
+  WorkerDone phase number jobs ends old new =
+      WentOn (λ es. TasksRun digest (named new) phase number 0 jobs es ends) old new
+
+  -- it did the first ones, and memory ran out
+  abbrev pub WorkerStopped : ℕ → ℕ → List Task → S → S → Type 0
+  WorkerStopped phase number jobs old new =
+      WentOn (λ es. WorkerBegun digest (named new) phase number 0 jobs es) old new

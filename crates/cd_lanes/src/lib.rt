@@ -1,6 +1,6 @@
-//! What a worker of a feed's phase has, and its tasks of that phase in their order, over any worker's turns.
+//! What a worker does in a phase of a feed: its tasks in their order, over any turns.
 #![tactic(auto)]
 
-mod lane;
+mod tasks;
 
-pub use lane::{Lane, run_lane};
+pub use tasks::do_tasks;
