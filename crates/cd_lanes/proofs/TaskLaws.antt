@@ -65,3 +65,13 @@ module _ {H : Type 0} (digest : List ℕ → Hash256) (pins : List Named) (p w :
   -- a task that is done is begun
   pub begun_of_run : (n : ℕ) (job : Task) (xs : List (Entry H)) (end : Outcome) → TaskRun digest pins (name p w n) job xs end → TaskBegun digest pins (name p w n) job xs
   begun_of_run n job xs end run = inr ([], (end, subst (λ es. TaskRun digest pins (name p w n) job es end) (sym (append-nil xs)) run))
+
+  -- tasks that are done are begun, and so are tasks without an entry
+  pub begun_of_tasks : (n : ℕ) (jobs : List Task) (es : List (Entry H)) (ends : List Outcome)
+      → TasksRun digest pins p w n jobs es ends → WorkerBegun digest pins p w n jobs es
+  begun_of_tasks n [] es ends (is, are) = is
+  begun_of_tasks n (job ∷ jobs) es ends (xs, ys, end, others, run, rest, is, are) = inr (xs, ys, (end, run), begun_of_tasks (n + 1) jobs ys others rest, is)
+
+  pub none_begun : (n : ℕ) (jobs : List Task) (es : List (Entry H)) → es ≡ [] → WorkerBegun digest pins p w n jobs es
+  none_begun n [] es none = none
+  none_begun n (job ∷ jobs) es none = inl (inl none)

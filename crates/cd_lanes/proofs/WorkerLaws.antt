@@ -15,7 +15,7 @@ use Rattle.cd_lanes.specs.Lanes.{TasksRun, WentOn, WorkerDone, WorkerStopped}
 use Rattle.cd_lanes.proofs.TaskLaws.{tasks_with_more, tasks_push, begun_push, begun_of_run}
 
 -- a count over two calls, one after another
-rises_both : (a b : Bool) (x y z : ℕ) → RisesOnly a x y → RisesOnly b y z → RisesOnly (a || b) x z
+pub rises_both : (a b : Bool) (x y z : ℕ) → RisesOnly a x y → RisesOnly b y z → RisesOnly (a || b) x z
 rises_both true b x y z first then = record {
   later = let p = first.later in let q = then.later in omega arith;
   steady = λ never. cc;
