@@ -1,7 +1,7 @@
 -- A phase, one worker more.
 use Rattle.std.proofs.Common.{◌≡◌, ◌≢◌, ◌⊎◌, inl, inr, ⊎_elim, ℕ, zero, suc, ◌+◌, ◌<◌, ◌≤◌, ◌==◌, Bool, true, false, ◌||◌, List, [], ◌∷◌, ◌++◌, length, take, drop, slice_index_or, slice_get, get_or, All, Option, Some, None, refl, sym, ap, ap₂, subst, ◌∙◌, append_assoc, append-nil, length-append, arith, ne_eqb, eq-eqb}
 use Rattle.std.proofs.lemmas.List.{take_more, drop_more, take-append-drop, length-take}
-use Rattle.std.proofs.lemmas.List.Elements.{filter-append, All-append}
+use Rattle.std.proofs.lemmas.List.Elements.{filter-append, All-append, All-nil}
 use Rattle.std.proofs.lemmas.Option.{none-some, same_Some, slice_get_within}
 use Rattle.cd_base.specs.declared.hash.Hash256.{Hash256}
 use Rattle.cd_keeper.specs.Contents.{Contents}
@@ -136,3 +136,70 @@ module _ {K X : Type 0} (digest : List ℕ → Hash256) (held : K → Option Con
           (one.0, get_before ends (its ∷ []) w (omega (arith, before.are.beside)) ∙ one.1, one.2)
       place w tasks is (inr (inl at)) = at_end w tasks at is
       place w tasks is (inr (inr gt)) = absurd (let in_list = slice_get_within (done ++ jobs ∷ []) w tasks is in omega (arith, length-snoc done jobs))
+
+  -- ---- memory ran out
+
+  module _ (later : List (List Task)) (stopped : WorkerStopped digest held faults phase (length done) jobs mid new) where
+    own : All (λ e. e.who.worker ≡ length done) stopped.entries
+    own = of_begun digest (pins_in digest held new (length done)) phase (length done) jobs stopped.entries stopped.are
+
+    abbrev Begun : ℕ → List Task → Type 0
+    Begun w tasks = WorkerBegun digest (pins_in digest held new w) phase w 0 tasks (of_worker w (before.entries ++ stopped.entries))
+
+    begun_here : (w : ℕ) (tasks : List Task) → w ≡ length done → slice_get (done ++ jobs ∷ later) w ≡ Some tasks → Begun w tasks
+    begun_here w tasks at is = subst (λ n. Begun n tasks) (sym at) (subst (Begun (length done))
+        (same_Some jobs tasks (sym (get_last done jobs later) ∙ ap (slice_get (done ++ jobs ∷ later)) (sym at) ∙ is))
+        (subst (WorkerBegun digest (pins_in digest held new (length done)) phase (length done) 0 jobs) (sym (part_own (length done) before.entries stopped.entries before.are.only own)) stopped.are))
+
+    begun_at : (w : ℕ) (tasks : List Task) → slice_get (done ++ jobs ∷ later) w ≡ Some tasks → (w < length done) ⊎ ((w ≡ length done) ⊎ (length done < w)) → Begun w tasks
+    begun_at w tasks is (inl lt) =
+        let one = earlier stopped.entries stopped.start stopped.journal own w tasks lt (sym (get_before done (jobs ∷ later) w lt) ∙ is) in
+        begun_of_tasks digest (pins_in digest held new w) phase w 0 tasks (of_worker w (before.entries ++ stopped.entries)) one.0 one.2
+    begun_at w tasks is (inr (inl at)) = begun_here w tasks at is
+    begun_at w tasks is (inr (inr gt)) = none_begun digest (pins_in digest held new w) phase w 0 tasks (of_worker w (before.entries ++ stopped.entries))
+        (part_later (length done) w before.entries stopped.entries gt before.are.only own)
+
+    pub worker_stops : PhaseStopped digest held faults phase (done ++ jobs ∷ later) old new
+    worker_stops = grew_twice faults _ _ (PartBegun digest (pins_in digest held new) phase (done ++ jobs ∷ later)) old mid new before stopped (record {
+      each = λ w tasks is. begun_at w tasks is (below_or (length done) w);
+      only = within (length (done ++ jobs ∷ later)) stopped.entries (omega (arith, length-append done (jobs ∷ later))) own;
+    })
+
+-- memory ran out for the place of what a worker's tasks ended with
+pub worker_unplaced : {K X : Type 0} (digest : List ℕ → Hash256) (held : K → Option Contents) (faults : K → ℕ) (phase k : ℕ) (jobs : List Task) (its : List Outcome) (mid new : CoreView K X)
+    → WorkerDone digest held faults phase k jobs its mid new → WorkerStopped digest held faults phase k jobs mid new
+worker_unplaced digest held faults phase k jobs its mid new did = record {
+  start = did.start;
+  entries = did.entries;
+  journal = did.journal;
+  are = begun_of_tasks digest (pins_in digest held new k) phase k 0 jobs did.entries its did.are;
+  caused = did.caused;
+}
+
+-- ---- by the number of the worker
+
+module _ {K X : Type 0} (digest : List ℕ → Hash256) (held : K → Option Contents) (faults : K → ℕ) (phase : ℕ) (workers : List (List Task)) (n : ℕ) (lt : n < length workers) (jobs : List Task) (is : jobs ≡ get_or workers n jobs)
+    (ends : List (List Outcome)) (old mid new : CoreView K X) (before : PhaseDone digest held faults phase (take n workers) ends old mid) where
+  number : n ≡ length (take n workers)
+  number = omega (arith, length-take n workers)
+
+  pub next_worker : (its : List Outcome) → WorkerDone digest held faults phase n jobs its mid new → PhaseDone digest held faults phase (take (n + 1) workers) (ends ++ its ∷ []) old new
+  next_worker its did = subst (λ l. PhaseDone digest held faults phase l (ends ++ its ∷ []) old new)
+      (sym (take_more workers n jobs lt ∙ ap (λ x. take n workers ++ x ∷ []) (sym is)))
+      (worker_push digest held faults phase (take n workers) jobs ends old mid new before its
+      (subst (λ k. WorkerDone digest held faults phase k jobs its mid new) number did))
+
+  pub stopped_worker : WorkerStopped digest held faults phase n jobs mid new → PhaseStopped digest held faults phase workers old new
+  stopped_worker did = subst (λ l. PhaseStopped digest held faults phase l old new)
+      (ap (λ l. take n workers ++ l) (sym (drop_more workers n jobs lt ∙ ap (λ x. x ∷ drop (n + 1) workers) (sym is))) ∙ take-append-drop n workers)
+      (worker_stops digest held faults phase (take n workers) jobs ends old mid new before (drop (n + 1) workers)
+      (subst (λ k. WorkerStopped digest held faults phase k jobs mid new) number did))
+
+pub no_worker : {K X : Type 0} (digest : List ℕ → Hash256) (held : K → Option Contents) (faults : K → ℕ) (phase : ℕ) (core : CoreView K X) → PhaseDone digest held faults phase [] [] core core
+no_worker digest held faults phase core = record {
+  start = refl;
+  entries = [];
+  journal = sym (append-nil core.journal);
+  are = record { each = λ w tasks is. absurd (none-some tasks is); only = All-nil (λ e. e.who.worker < 0); beside = refl };
+  caused = record { later = omega arith; steady = λ _. refl; rose = λ never. cc };
+}
