@@ -1,0 +1,3 @@
+pub mod PinLaws
+pub mod TaskLaws
+pub mod WorkerLaws

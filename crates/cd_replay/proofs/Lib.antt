@@ -1,0 +1,3 @@
+mod OnCore
+mod PinsGrow
+mod PhaseLaws
