@@ -1,5 +1,5 @@
 -- What a task did under some pins it did under them and more.
-use Rattle.std.proofs.Common.{◌≡◌, inl, inr, ⊎_elim, ℕ, ◌==◌, List, [], ◌++◌, Some, ap, ◌∙◌}
+use Rattle.std.proofs.Common.{◌≡◌, inl, inr, ⊎_elim, ℕ, ◌==◌, List, [], ◌++◌, Option, Some, ap, ◌∙◌}
 use Rattle.std.specs.Option.{option_or}
 use Rattle.std.proofs.lemmas.List.Folds.{find-append}
 use Rattle.cd_base.specs.declared.hash.Hash256.{Hash256}
@@ -14,7 +14,7 @@ use Rattle.cd_run.specs.declared.outcome.Outcome.{Outcome}
 use Rattle.cd_run.specs.Runs.{BlockRun, MergedRun, PinRun, IsFewFor, IsAnyNumber, TaskRun, TaskEvents, TaskBegun, block_unread, parent_not_pinned, block_stored, block_refused, merged_unread, left_not_pinned, right_not_pinned, merged_stored, merged_refused, block_not_pinned, let_go}
 use Rattle.cd_run.specs.Finds.{ReadFinds, SliceFinds, ServeFinds}
 
-found : (pins more : List Named) (n : ℕ) (m : Named) → find_pin pins n ≡ Some m → find_pin (pins ++ more) n ≡ Some m
+pub found : (pins more : List Named) (n : ℕ) (m : Named) → find_pin pins n ≡ Some m → find_pin (pins ++ more) n ≡ Some m
 found pins more n m is = find-append (λ x. x.number == n) pins more ∙ ap (λ o. option_or o (find_pin more n)) is
 
 module _ {X : Type 0} (digest : List ℕ → Hash256) (pins more : List Named) (who : Who) where
