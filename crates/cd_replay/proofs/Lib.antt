@@ -1,3 +1,4 @@
 mod OnCore
 mod PinsGrow
 mod PhaseLaws
+mod LeftLaws
