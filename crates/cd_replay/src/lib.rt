@@ -1,5 +1,5 @@
 //! A feed's tasks, done on one thread over a core: phase after phase, worker after worker, task after task.
 #![tactic(auto)]
 
-//mod phase;
+mod phase;
 mod worker;
