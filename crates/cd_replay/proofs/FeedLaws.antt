@@ -6,13 +6,15 @@ use Rattle.cd_keeper.specs.Contents.{Contents}
 use Rattle.cd_event.specs.declared.entry.Entry.{Entry}
 use Rattle.cd_event.specs.Pins.{Named}
 use Rattle.cd_core.specs.Cores.{CoreView}
+use Rattle.cd_feed.specs.declared.feed.Feed.{Feed}
 use Rattle.cd_feed.specs.declared.feed.Phase.{Phase}
 use Rattle.cd_feed.specs.declared.feed.Task.{Task}
 use Rattle.cd_run.specs.declared.outcome.Outcome.{Outcome}
 use Rattle.cd_run.specs.Covers.{of_worker, PartEvents, PartBegun, CutByPhases, CutEarly}
 use Rattle.cd_lanes.specs.Lanes.{TasksRun}
 use Rattle.cd_lanes.proofs.TaskLaws.{tasks_with_more, events_of_tasks, begun_of_tasks}
-use Rattle.cd_replay.specs.Left.{IsOneOf, PhaseServed, WorkerServed}
+use Rattle.cd_feed.specs.Feeds.{IsFeedFit, feed_serves, phase_serves, worker_serves}
+use Rattle.cd_replay.specs.Left.{all_serves, IsOneOf, PhaseServed, WorkerServed}
 use Rattle.cd_replay.specs.Ran.{Grew, pins_in, PartRun, PhasesRun, PhaseDone, PhaseStopped, FeedDone, FeedStopped}
 use Rattle.cd_replay.proofs.LeftLaws.{so_far, all_of}
 use Rattle.cd_replay.proofs.PhaseLaws.{grew_twice, grow_served}
@@ -134,3 +136,8 @@ grow_phase got steady digest held mid new entries same journal k p ends old now 
   ended = s.ended;
   is = grow_served got steady digest held mid new entries same journal s.place s.part s.end old now s.is;
 }
+
+-- a feed within the limits has one serve at most
+pub serves_fit : (f : Feed) → IsFeedFit f → all_serves f.phases ≤ 1
+unfolding feed_serves phase_serves worker_serves
+serves_fit f fit = fit.serves
