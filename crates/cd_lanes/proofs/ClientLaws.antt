@@ -59,7 +59,6 @@ pub record Further (jobs : List Task) (ends all : List Outcome) (result : Result
 module _ {C : Type 0} (got : C → Option (List ℕ)) (steady : C → Bool) (digest : List ℕ → Hash256) (pins more : List Named) (jobs : List Task) (job : Task) (later : List Task) (ends all : List Outcome) (old mid new : List C) (result : Result Outcome Memory)
     (one : serves (jobs ++ job ∷ later) ≤ 1) (left : LeavesAll got steady digest pins jobs ends old mid) (untouched : serves jobs ≡ 0 → mid ≡ old) (further : Further jobs ends all result)
     (leaves : LeavesClients got steady digest (pins ++ more) job mid new result) where
-
   -- a serve that came before still stands
   kept_served : new ≡ mid → IsServed got steady digest pins jobs ends old mid → LeavesAll got steady digest (pins ++ more) (jobs ++ job ∷ later) all old new
   kept_served same s =
@@ -127,7 +126,7 @@ module _ {C : Type 0} (got : C → Option (List ℕ)) (steady : C → Bool) (dig
 pub one_end_more : (jobs : List Task) (ends all : List Outcome) (end : Outcome) → length ends ≡ length jobs → all ≡ ends ++ end ∷ [] → Further jobs ends all (Ok end)
 one_end_more jobs ends all end beside is = record {
   before = λ place e lt at. sym (get_before ends (end ∷ []) place (omega arith)) ∙ ap (λ l. slice_get l place) (sym is) ∙ at;
-  here = λ e at. ap (λ (x : Outcome). Ok x) (same_Some end e (sym (get_last ends end [] ) ∙ (ap (slice_get (ends ++ end ∷ [])) beside ∙ ap (λ l. slice_get l (length jobs)) (sym is) ∙ at)));
+  here = λ e at. ap (λ (x : Outcome). Ok x) (same_Some end e (sym (get_last ends end []) ∙ (ap (slice_get (ends ++ end ∷ [])) beside ∙ ap (λ l. slice_get l (length jobs)) (sym is) ∙ at)));
 }
 
 -- memory ran out

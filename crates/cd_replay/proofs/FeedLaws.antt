@@ -44,9 +44,12 @@ module _ {X : Type 0} (digest : List ℕ → Hash256) where
     part_with_more : (n : ℕ) (workers : List (List Task)) (part : List (Entry X)) (ends : List (List Outcome)) → PartRun digest pins n workers part ends → PartRun digest all n workers part ends
     part_with_more n workers part ends run = record {
       each = λ w jobs at.
-          let found = run.each w jobs at in
-          (found.0, found.1, subst (λ l. TasksRun digest l n w 0 jobs (of_worker w part) found.0) (sym (grown w))
-          (tasks_with_more digest (pins w) (more w) n w 0 jobs (of_worker w part) found.0 found.2));
+          let found = run.each w jobs at in (
+            found.0,
+            found.1,
+            subst (λ l. TasksRun digest l n w 0 jobs (of_worker w part) found.0) (sym (grown w))
+                (tasks_with_more digest (pins w) (more w) n w 0 jobs (of_worker w part) found.0 found.2),
+          );
       only = run.only;
       beside = run.beside;
     }
@@ -63,9 +66,16 @@ module _ {X : Type 0} (digest : List ℕ → Hash256) where
       let number : n + 0 ≡ n = omega arith in
       (part, [], its, [], subst (λ m. PartRun digest pins m p.workers part its) number run, (refl, refl), ap (λ l. l ++ part) is ∙ sym (append-nil part), ap (λ l. l ++ its ∷ []) are)
   phases_push pins n (q ∷ phases) es ends p part its (xs, rest, first, others, mine, runs, is, are) run =
-      let number : n + suc (length phases) ≡ n + 1 + length phases = omega arith in
-      (xs, rest ++ part, first, others ++ its ∷ [], mine, phases_push pins (n + 1) phases rest others p part its runs (subst (λ m. PartRun digest pins m p.workers part its) number run),
-        ap (λ l. l ++ part) is ∙ append_assoc xs rest part, ap (λ l. l ++ its ∷ []) are)
+      let number : n + suc (length phases) ≡ n + 1 + length phases = omega arith in (
+        xs,
+        rest ++ part,
+        first,
+        others ++ its ∷ [],
+        mine,
+        phases_push pins (n + 1) phases rest others p part its runs (subst (λ m. PartRun digest pins m p.workers part its) number run),
+        ap (λ l. l ++ part) is ∙ append_assoc xs rest part,
+        ap (λ l. l ++ its ∷ []) are,
+      )
 
   pub early_push : (pins : ℕ → List Named) (n : ℕ) (phases later : List Phase) (es : List (Entry X)) (ends : List (List (List Outcome))) (p : Phase) (part : List (Entry X))
       → PhasesRun digest pins n phases es ends → PartBegun digest pins (n + length phases) p.workers part → CutEarly digest pins n (phases ++ p ∷ later) (es ++ part)
@@ -74,8 +84,13 @@ module _ {X : Type 0} (digest : List ℕ → Hash256) where
       inl (subst (λ l. PartBegun digest pins n p.workers (l ++ part)) (sym is) (subst (λ m. PartBegun digest pins m p.workers part) number begun))
   early_push pins n (q ∷ phases) later es ends p part (xs, rest, first, others, mine, runs, is, are) begun =
       let number : n + suc (length phases) ≡ n + 1 + length phases = omega arith in
-      inr (xs, rest ++ part, events_of_part pins n q.workers xs first mine, early_push pins (n + 1) phases later rest others p part runs (subst (λ m. PartBegun digest pins m p.workers part) number begun),
-        ap (λ l. l ++ part) is ∙ append_assoc xs rest part)
+      inr (
+        xs,
+        rest ++ part,
+        events_of_part pins n q.workers xs first mine,
+        early_push pins (n + 1) phases later rest others p part runs (subst (λ m. PartBegun digest pins m p.workers part) number begun),
+        ap (λ l. l ++ part) is ∙ append_assoc xs rest part,
+      )
 
   pub ends_beside : (pins : ℕ → List Named) (n : ℕ) (phases : List Phase) (es : List (Entry X)) (ends : List (List (List Outcome))) → PhasesRun digest pins n phases es ends → length ends ≡ length phases
   ends_beside pins n [] es ends (is, are) = ap length are

@@ -27,7 +27,6 @@ no_end count ends end = record { before = λ place e lt at. absurd (none-some e 
 
 module _ {X E C : Type 0} (f : X → ℕ) (Is Then : ℕ → X → E → List C → List C → Type 0) (parts : List X) (part : X) (later : List X) (old mid new : List C)
     (one : sum_by f (parts ++ part ∷ later) ≤ 1) (untouched : sum_by f parts ≡ 0 → mid ≡ old) where
-
   pub one_here : f part ≤ 1
   one_here = omega (arith, sum_with f parts part later, one)
 
@@ -39,19 +38,18 @@ module _ {X E C : Type 0} (f : X → ℕ) (Is Then : ℕ → X → E → List C 
 
   module _ (grow : (k : ℕ) (x : X) (e : E) (o n : List C) → Is k x e o n → Then k x e o n) (ends all : List E) (end : E) (left : LeftByOne Is parts ends old mid) (still : f part ≡ 0 → new ≡ mid)
       (its : (new ≡ mid) ⊎ Then (length parts) part end mid new) (more : EndsOneMore (length parts) ends all end) where
-
     kept : new ≡ mid → LeftByOne Then (parts ++ part ∷ later) all old new
     kept same = ⊎_elim (λ (is : mid ≡ old). inl (same ∙ is))
         (λ (s : IsOneOf Is parts ends old mid).
-          let lt = slice_get_within parts s.place s.part s.at in
-          inr (record {
-            place = s.place;
-            part = s.part;
-            at = get_before parts (part ∷ later) s.place lt ∙ s.at;
-            end = s.end;
-            ended = λ e at. s.ended e (more.before s.place e lt at);
-            is = subst (λ (cs : List C). Then s.place s.part s.end old cs) (sym same) (grow s.place s.part s.end old mid s.is);
-          })) left
+        let lt = slice_get_within parts s.place s.part s.at in
+        inr (record {
+          place = s.place;
+          part = s.part;
+          at = get_before parts (part ∷ later) s.place lt ∙ s.at;
+          end = s.end;
+          ended = λ e at. s.ended e (more.before s.place e lt at);
+          is = subst (λ (cs : List C). Then s.place s.part s.end old cs) (sym same) (grow s.place s.part s.end old mid s.is);
+        })) left
 
     pub left_here : LeftByOne Then (parts ++ part ∷ later) all old new
     left_here = by (f part) refl

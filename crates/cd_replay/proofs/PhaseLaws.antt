@@ -94,18 +94,19 @@ below_or n w = grind arith
 
 module _ {K X : Type 0} (digest : List ℕ → Hash256) (held : K → Option Contents) (faults : K → ℕ) (phase : ℕ) (done : List (List Task)) (jobs : List Task) (ends : List (List Outcome)) (old mid new : CoreView K X)
     (before : PhaseDone digest held faults phase done ends old mid) where
-
   -- what an earlier worker did, with the pins of now
   earlier : (entries : List (Entry X)) → new.start ≡ mid.start → new.journal ≡ mid.journal ++ entries → All (λ e. e.who.worker ≡ length done) entries
       → (w : ℕ) (its : List Task) → w < length done → slice_get done w ≡ Some its
       → (others : List Outcome) × (slice_get ends w ≡ Some others) × TasksRun digest (pins_in digest held new w) phase w 0 its (of_worker w (before.entries ++ entries)) others
   earlier entries same journal of w its lt is =
       let found = before.are.each w its is in
-      let more = more_pins digest held w mid new entries same journal in
-      (found.0, found.1,
+      let more = more_pins digest held w mid new entries same journal in (
+        found.0,
+        found.1,
         subst (λ l. TasksRun digest (pins_in digest held new w) phase w 0 its l found.0) (sym (part_earlier (length done) w before.entries entries (λ same. let g : ⊥ = omega arith in g) of))
-        (subst (λ l. TasksRun digest l phase w 0 its (of_worker w before.entries) found.0) (sym (pins_grow digest held w mid new entries same journal))
-        (tasks_with_more digest (pins_in digest held mid w) more phase w 0 its (of_worker w before.entries) found.0 found.2)))
+            (subst (λ l. TasksRun digest l phase w 0 its (of_worker w before.entries) found.0) (sym (pins_grow digest held w mid new entries same journal))
+            (tasks_with_more digest (pins_in digest held mid w) more phase w 0 its (of_worker w before.entries) found.0 found.2)),
+      )
 
   within : (n : ℕ) (entries : List (Entry X)) → length done < n → All (λ e. e.who.worker ≡ length done) entries → All (λ e. e.who.worker < n) (before.entries ++ entries)
   within n entries lt of = All-append (λ e. e.who.worker < n) before.entries entries
@@ -115,10 +116,10 @@ module _ {K X : Type 0} (digest : List ℕ → Hash256) (held : K → Option Con
   -- it did its tasks
   pub worker_push : (its : List Outcome) → WorkerDone digest held faults phase (length done) jobs its mid new → PhaseDone digest held faults phase (done ++ jobs ∷ []) (ends ++ its ∷ []) old new
   worker_push its did = grew_twice faults _ _ (λ es. PartRun digest (pins_in digest held new) phase (done ++ jobs ∷ []) es (ends ++ its ∷ [])) old mid new before did (record {
-      each = λ w tasks is. place w tasks is (below_or (length done) w);
-      only = within (length (done ++ jobs ∷ [])) did.entries (omega (arith, length-snoc done jobs)) of;
-      beside = length-snoc ends its ∙ ap (λ n. n + 1) before.are.beside ∙ sym (length-snoc done jobs);
-    })
+    each = λ w tasks is. place w tasks is (below_or (length done) w);
+    only = within (length (done ++ jobs ∷ [])) did.entries (omega (arith, length-snoc done jobs)) of;
+    beside = length-snoc ends its ∙ ap (λ n. n + 1) before.are.beside ∙ sym (length-snoc done jobs);
+  })
     where
       of : All (λ e. e.who.worker ≡ length done) did.entries
       of = of_tasks digest (pins_in digest held new (length done)) phase (length done) jobs did.entries its did.are
@@ -128,9 +129,11 @@ module _ {K X : Type 0} (digest : List ℕ → Hash256) (held : K → Option Con
 
       at_end : (w : ℕ) (tasks : List Task) → w ≡ length done → slice_get (done ++ jobs ∷ []) w ≡ Some tasks → Placed w tasks
       at_end w tasks at is = subst (λ n. Placed n tasks) (sym at) (subst (Placed (length done))
-          (same_Some jobs tasks (sym (get_last done jobs []) ∙ ap (slice_get (done ++ jobs ∷ [])) (sym at) ∙ is))
-          (its, ap (slice_get (ends ++ its ∷ [])) (sym before.are.beside) ∙ get_last ends its [],
-          subst (λ l. TasksRun digest (pins_in digest held new (length done)) phase (length done) 0 jobs l its) (sym (part_own (length done) before.entries did.entries before.are.only of)) did.are))
+          (same_Some jobs tasks (sym (get_last done jobs []) ∙ ap (slice_get (done ++ jobs ∷ [])) (sym at) ∙ is)) (
+            its,
+            ap (slice_get (ends ++ its ∷ [])) (sym before.are.beside) ∙ get_last ends its [],
+            subst (λ l. TasksRun digest (pins_in digest held new (length done)) phase (length done) 0 jobs l its) (sym (part_own (length done) before.entries did.entries before.are.only of)) did.are,
+          ))
 
       place : (w : ℕ) (tasks : List Task) → slice_get (done ++ jobs ∷ []) w ≡ Some tasks → (w < length done) ⊎ ((w ≡ length done) ⊎ (length done < w)) → Placed w tasks
       place w tasks is (inl lt) =

@@ -1,5 +1,5 @@
 //! Tasks of blocks over a core of one thread, with the weak hash: a cell of the 8 bits `n` has the hash `n + 2`.
-ghost use Rattle.std.specs.Prelude.{◌≡◌, ◌≤◌, length, true, IfOk};
+ghost use Rattle.std.specs.Prelude.{◌≤◌, length, IfOk};
 ghost use Rattle.cd_feed.specs.Feeds.{IsTaskFit};
 ghost use Rattle.cd_run.specs.Clients.{MayServe};
 
@@ -79,10 +79,15 @@ fn joined_bag(alloc: Global) -> Result<Bytes, Fail>
     Ok(Bytes::from(text))
 }
 
-/// Does a task of the one worker, which isn't a serve.
-fn run(alloc: Global, core: &mut TestCore, job: &Task) -> Result<Outcome, Memory>
+/// Does a task of the one worker.
+fn run(
+    alloc: Global,
+    core: &mut TestCore,
+    job: &Task,
+    clients: &mut Vec<Client>,
+) -> Result<Outcome, Memory>
     requires within { IsTaskFit job.now }
-    requires alone { MayServe (λ c. got c) job.now [] }
+    requires fresh { MayServe (λ c. got c) job.now clients.old.items }
 {
     let who = Who {
         phase: 0,
@@ -90,8 +95,7 @@ fn run(alloc: Global, core: &mut TestCore, job: &Task) -> Result<Outcome, Memory
         task: 0,
     };
     let mut turns = OneThread::new(core, 0);
-    let mut clients: Vec<Client> = Vec::new(alloc);
-    do_task(alloc, &mut turns, who, job, &mut clients, &NoHoldup)
+    do_task(alloc, &mut turns, who, job, clients, &NoHoldup)
 }
 
 /// Stores the cell of 8 bits as a zero state.
@@ -102,7 +106,7 @@ fn store_state(alloc: Global, core: &mut TestCore, id: BlockId, bits: u8) -> Res
         tops: BlockIds::from(Vec::new(alloc)),
         bag: state_bag(alloc, bits)?,
     };
-    Ok(run(alloc, core, &job)?)
+    Ok(run(alloc, core, &job, &mut Vec::new(alloc))?)
 }
 
 /// Stores a block over the zero state of the whole workchain.
@@ -116,7 +120,7 @@ fn store_block(alloc: Global, core: &mut TestCore, bag: Bytes) -> Result<Outcome
         tops: BlockIds::from(Vec::new(alloc)),
         bag,
     };
-    Ok(run(alloc, core, &job)?)
+    Ok(run(alloc, core, &job, &mut Vec::new(alloc))?)
 }
 
 /// Stores a block over the zero states of both halves, in this order.
@@ -134,7 +138,7 @@ fn store_merged(
         tops: BlockIds::from(Vec::new(alloc)),
         bag: joined_bag(alloc)?,
     };
-    Ok(run(alloc, core, &job)?)
+    Ok(run(alloc, core, &job, &mut Vec::new(alloc))?)
 }
 
 /// A reply in a word.

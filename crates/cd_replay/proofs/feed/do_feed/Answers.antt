@@ -28,9 +28,9 @@ pub loop-place-preserved : goal.loop-place-preserved
 loop-place-preserved g c =
     let ok : is_ok c.push.result ≡ true = c.is_err.ensures.negation ∙ ap not c.if-is_err.false in
     let put : c.push.new.self.items ≡ c.loop-place.ends.items ++ c.in-Ok.its ∷ [] =
-      c.push.ensures.items ∙ ap (λ (b : Bool). if b then (c.loop-place.ends.items ++ c.in-Ok.its ∷ []) else c.loop-place.ends.items) ok in
+    c.push.ensures.items ∙ ap (λ (b : Bool). if b then (c.loop-place.ends.items ++ c.in-Ok.its ∷ []) else c.loop-place.ends.items) ok in
     let all : ends_of c.push.new.self.items ≡ ends_of c.loop-place.ends.items ++ (map (λ its. its.items) c.in-Ok.its.items) ∷ [] =
-      ap ends_of put ∙ map-append (λ p. map (λ w. w.items) p.items) c.loop-place.ends.items (c.in-Ok.its ∷ []) in
+    ap ends_of put ∙ map-append (λ p. map (λ w. w.items) p.items) c.loop-place.ends.items (c.in-Ok.its ∷ []) in
     record {
       done = subst (λ ends. FeedDone g.H.Hash32.digest_of g.K.Keeper.held g.K.Keeper.faults (take (c.loop-place.place + 1) c.args.feed.now.phases) ends c.args.core.now c.do_phase.new.core) (sym all)
           (next_phase g.H.Hash32.digest_of g.K.Keeper.held g.K.Keeper.faults c.args.feed.now.phases c.loop-place.place (subst (λ (l : List Phase). c.loop-place.place < length l) c.as_slice-phase-items.ensures c.loop-place-test.true) c.phase-item.result (subst (λ (l : List Phase). c.phase-item.result ≡ get_or l c.loop-place.place c.phase-item.result) c.as_slice-phase-items.ensures c.phase-item.is) (ends_of c.loop-place.ends.items) c.args.core.now c.loop-place.core c.do_phase.new.core c.loop-place.invariant.done (map (λ its. its.items) c.in-Ok.its.items) (subst (λ ws. PhaseDone g.H.Hash32.digest_of g.K.Keeper.held g.K.Keeper.faults c.loop-place.place ws (map (λ its. its.items) c.in-Ok.its.items) c.loop-place.core c.do_phase.new.core) c.as_slice.ensures c.in-Ok.ensures.done));

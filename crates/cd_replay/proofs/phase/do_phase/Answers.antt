@@ -27,9 +27,9 @@ pub loop-place-preserved : goal.loop-place-preserved
 loop-place-preserved g c =
     let ok : is_ok c.push.result ≡ true = c.is_err.ensures.negation ∙ ap not c.if-is_err.false in
     let put : c.push.new.self.items ≡ c.loop-place.ends.items ++ c.in-Ok.its ∷ [] =
-      c.push.ensures.items ∙ ap (λ (b : Bool). if b then (c.loop-place.ends.items ++ c.in-Ok.its ∷ []) else c.loop-place.ends.items) ok in
+    c.push.ensures.items ∙ ap (λ (b : Bool). if b then (c.loop-place.ends.items ++ c.in-Ok.its ∷ []) else c.loop-place.ends.items) ok in
     let all : map (λ its. its.items) c.push.new.self.items ≡ map (λ its. its.items) c.loop-place.ends.items ++ c.in-Ok.its.items ∷ [] =
-      ap (map (λ its. its.items)) put ∙ map-append (λ its. its.items) c.loop-place.ends.items (c.in-Ok.its ∷ []) in
+    ap (map (λ its. its.items)) put ∙ map-append (λ its. its.items) c.loop-place.ends.items (c.in-Ok.its ∷ []) in
     record {
       done = subst (λ ends. PhaseDone g.H.Hash32.digest_of g.K.Keeper.held g.K.Keeper.faults c.args.phase (take (c.loop-place.place + 1) c.args.workers.now) ends c.args.core.now c.do_worker.new.core) (sym all)
           (next_worker g.H.Hash32.digest_of g.K.Keeper.held g.K.Keeper.faults c.args.phase c.args.workers.now c.loop-place.place c.loop-place-test.true c.index-workers-place.result c.index-workers-place.is (map (λ its. its.items) c.loop-place.ends.items) c.args.core.now c.loop-place.core c.do_worker.new.core c.loop-place.invariant.done c.in-Ok.its.items (subst (λ jobs. WorkerDone g.H.Hash32.digest_of g.K.Keeper.held g.K.Keeper.faults c.args.phase c.loop-place.place jobs c.in-Ok.its.items c.loop-place.core c.do_worker.new.core) c.as_slice.ensures c.in-Ok.ensures.done));

@@ -38,5 +38,9 @@ returns-clause-clients g c =
     ∙ looks_named T.worker T.faults T.made T.goes T.named (is_halted work) _ c.in-Ok.pinned.pin c.take_pin.new.turns c.serve_pin-end.new.turns 0 looks.0 looks.1) in
     let told : state_of (T.named c.take_pin.new.turns) c.in-Ok.pinned.pin ≡ came.pin.tree = ap (option_and_then (λ n. n.tree)) came.found in
     let kept : find_pin (T.named c.let_go.new.turns) came.pin.number ≡ Some came.pin = ap₂ find_pin same came.number ∙ came.found in
-    inr (came.pin, kept, subst (λ t. Sent (λ b. (goal.SliceClient-dyn g (b.vtable, b.value)).got b.value) (λ b. (goal.SliceClient-dyn g (b.vtable, b.value)).steady b.value) H t old new c.let_go.result) told
-    (sent_further _ _ H (state_of (T.named c.take_pin.new.turns) c.in-Ok.pinned.pin) old new _ c.in-Ok.pinned.pin work c.let_go.ensures.entries c.let_go.result c.let_go.ensures.are c.serve_pin-end.ensures.sent))
+    inr (
+      came.pin,
+      kept,
+      subst (λ t. Sent (λ b. (goal.SliceClient-dyn g (b.vtable, b.value)).got b.value) (λ b. (goal.SliceClient-dyn g (b.vtable, b.value)).steady b.value) H t old new c.let_go.result) told
+          (sent_further _ _ H (state_of (T.named c.take_pin.new.turns) c.in-Ok.pinned.pin) old new _ c.in-Ok.pinned.pin work c.let_go.ensures.entries c.let_go.result c.let_go.ensures.are c.serve_pin-end.ensures.sent),
+    )
