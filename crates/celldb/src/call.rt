@@ -55,7 +55,8 @@ pub fn database_of(alloc: Global, words: &[String]) -> Result<Option<String>, Me
     match read_words(alloc, words) {
         Ok(command) => Ok(database_in(command)),
         Err(WordFault::Memory) => Err(Memory),
-        Err(_) => Ok(None),
+        Err(WordFault::Usage) => Ok(None),
+        Err(WordFault::BadValue { .. }) => Ok(None),
     }
 }
 
