@@ -60,20 +60,20 @@ module _ (H : List ℕ → Hash256) {K : Type 0} (k : KeeperGhosts K) where
         by None part = tt
         by (Some contents) part = (part.n, (subst (λ r. IsPart k.held k.trail k.batches contents mid new r) is part).so_far, made-since k part.n contents old mid new checked.keeps part.made)
 
-    pub unmigrated-by : (fault : MigrateFault) → IfSome (k.held mid) (λ contents. IsPart {T = Migrated} k.held k.trail k.batches contents mid new (Err fault))
+    pub unmigrated-by : (fault : MigrateFault) → IfSome (k.held mid) (λ contents. IsPart k.held k.trail k.batches {T = Migrated} contents mid new (Err fault))
         → IsCaused (k.faults mid) (k.faults new) fault → IsUnmigrated H k old new (status_by fault)
     unmigrated-by migrate.Keeper part caused = (part-since (Err migrate.Keeper) migrate.Keeper refl part, subst (λ n. Rose n (k.faults new)) checked.steady caused)
     unmigrated-by migrate.Memory part caused = (part-since (Err migrate.Memory) migrate.Memory refl part, caused ∙ checked.steady)
 
-    pub migrated-all : (done : Migrated) → IfSome (k.held mid) (λ contents. IsPart {T = Migrated} k.held k.trail k.batches contents mid new (Ok done))
+    pub migrated-all : (done : Migrated) → IfSome (k.held mid) (λ contents. IsPart k.held k.trail k.batches {T = Migrated} contents mid new (Ok done))
         → IfSome (k.held mid) (λ contents. done ≡ migrated_of contents) → k.faults new ≡ k.faults mid → IsMigrated H k old new done
     migrated-all done part numbers steady = record {
-      whole = by (k.held old) checked.is (let keeps = checked.keeps in subst (λ (o : Option Contents). IfSome o (λ contents. IsPart {T = Migrated} k.held k.trail k.batches contents mid new (Ok done))) keeps.same_held part)
+      whole = by (k.held old) checked.is (let keeps = checked.keeps in subst (λ (o : Option Contents). IfSome o (λ contents. IsPart k.held k.trail k.batches {T = Migrated} contents mid new (Ok done))) keeps.same_held part)
           (let keeps = checked.keeps in subst (λ (o : Option Contents). IfSome o (λ contents. done ≡ migrated_of contents)) keeps.same_held numbers);
       steady = steady ∙ checked.steady;
     }
       where
-        by : (o : Option Contents) → IfSome o (λ contents. IsOpened H contents totals) → IfSome o (λ contents. IsPart {T = Migrated} k.held k.trail k.batches contents mid new (Ok done))
+        by : (o : Option Contents) → IfSome o (λ contents. IsOpened H contents totals) → IfSome o (λ contents. IsPart k.held k.trail k.batches {T = Migrated} contents mid new (Ok done))
             → IfSome o (λ contents. done ≡ migrated_of contents) → IfSome o (λ contents. IsRewritten H k contents (all_batches contents) old new × (done ≡ migrated_of contents))
         by None is part numbers = tt
         by (Some contents) is part numbers = (

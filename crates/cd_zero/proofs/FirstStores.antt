@@ -19,13 +19,14 @@ use Rattle.cd_event.specs.declared.names.Who.{Who}
 use Rattle.cd_event.specs.Replies.{entry_of}
 use Rattle.cd_record.specs.declared.limits.TheConstants.{GREATEST_COUNT}
 use Rattle.cd_world.specs.declared.world.World.{World}
-use Rattle.cd_world.specs.Changes.{settled}
+use Rattle.cd_world.specs.Changes.{settling, settled}
 use Rattle.cd_world.specs.Image.{IsContentsOf}
 use Rattle.cd_world.specs.Told.{ToldWorld, shown, made, told_after, told_replay}
 use Rattle.cd_world.specs.Unfolded.{told_in}
 use Rattle.cd_world.proofs.PinsStay.{same_id-self}
 use Rattle.cd_core.specs.Cores.{IsHeld, opened}
 use Rattle.cd_restart.specs.Stored.{blocks_in, descr_of}
+use Rattle.cd_restart.specs.OpenEnds.{IsSettledTo}
 use Rattle.cd_restart.specs.Opened.{world_of}
 use Rattle.cd_command.specs.Opening.{LeadsTo}
 use Rattle.cd_zero.specs.Zero as zero
@@ -57,13 +58,13 @@ module _ (H : List ℕ → Hash256) where
         → k.held old ≡ Some no_contents → IfSome (k.held now) (IsContentsOf H (zero.world_of id state))
     first-stored id p state stands is none =
         let start = leads.opened in
-        let told = subst (λ (h : Option Contents). IfSome h (λ contents. leads.world ≡ settled (world_of (blocks_in contents)))) none (only (k.held old) start.told) in
+        let told = subst (λ (h : Option Contents). IfSome h (λ contents. leads.world ≡ settled (world_of (blocks_in contents)))) none (only (λ contents. IsSettledTo H k contents (settled (world_of (blocks_in contents))) (settling (world_of (blocks_in contents))) old leads.mid) (k.held old) start.told) in
         by (k.held leads.mid) (told ∙ none-opened) refl (let on = leads.on in on.told)
       where
-        only : (o : Option Contents) {P : Contents → Type 0} → IfSome o (λ contents. (leads.world ≡ settled (world_of (blocks_in contents))) × P contents)
+        only : (P : Contents → Type 0) (o : Option Contents) → IfSome o (λ contents. (leads.world ≡ settled (world_of (blocks_in contents))) × P contents)
             → IfSome o (λ contents. leads.world ≡ settled (world_of (blocks_in contents)))
-        only None so = tt
-        only (Some contents) so = so.0
+        only P None so = tt
+        only P (Some contents) so = so.0
         by : (o : Option Contents) → leads.world ≡ opened [] → k.held leads.mid ≡ o
             → IfSome o (λ contents. IsHeld k.held H k.trail GREATEST_COUNT (told_in contents leads.world) journal leads.mid now)
             → IfSome (k.held now) (IsContentsOf H (zero.world_of id state))

@@ -87,10 +87,10 @@ module _ (H : List ℕ → Hash256) {K O X : Type 0} (k : KeeperGhosts K) (o : S
     unstored zero.Known is cause same = (entry (reply.Refused store.Known) is, λ e. cc, steady-of cause refl, same)
     unstored (zero.Lineage fault) is cause same = (entry (reply.Refused (store.Lineage fault)) is, λ e. cc, steady-of cause refl, same)
     unstored (zero.ZeroHash stated real) is cause same = (entry (reply.Refused (store.ZeroHash stated real)) is, λ e. cc, steady-of cause refl, same)
-    unstored (zero.Clash hash stored offered) is cause same = (entry (reply.Refused (store.Clash hash stored offered)) is, λ e. cc, steady-of cause refl, same)
+    unstored (zero.Clash hash there offered) is cause same = (entry (reply.Refused (store.Clash hash there offered)) is, λ e. cc, steady-of cause refl, same)
     unstored (zero.CountFull hash count) is cause same = (entry (reply.Refused (store.CountFull hash count)) is, λ e. cc, steady-of cause refl, same)
     unstored zero.Keeper is cause same = (inr (entry (reply.Refused store.Keeper) is), subst (λ n. Rose n (k.faults keeper_after)) same_before (cause.rose refl), same)
-    unstored zero.Memory is cause same = (record { entries = is; left = inr (subst (λ (es : List (Entry X)). LeadsTo H k es keeper keeper_after) is leads) }, steady-of cause refl, same)
+    unstored zero.Memory is cause same = (record { entries = is; left = inr leads }, steady-of cause refl, same)
 
     pub storing-ends : (id : BlockId) (text : List ℕ) (answer : Result Stored ZeroFault) (end : Status) → id ≡ zero_id name (rep_of H state) → text ≡ zero_text H name state
         → journal ≡ entries_of first_task (Zero id [] listed) (zero_reply answer) → RisesOnly (is_keeper (zero_reply answer)) before (k.faults keeper_after)

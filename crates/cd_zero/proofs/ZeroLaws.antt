@@ -36,7 +36,7 @@ module _ (H : List ℕ → Hash256) (name : ZeroName) {S O K X : Type 0} (s : So
   pub idle-same : AreSame out out_after keeper keeper_after journal → IsIdle H k journal keeper keeper_after
   idle-same same = record {
     entries = same.entries;
-    left = inl (record { same_held = ap k.held same.keeper; same_trail = ap k.trail same.keeper; same_batches = ap k.batches same.keeper });
+    left = inl (inl (record { same_held = ap k.held same.keeper; same_trail = ap k.trail same.keeper; same_batches = ap k.batches same.keeper }));
   }
 
   -- bytes that are no bag of a state end as the table says

@@ -9,7 +9,7 @@ returns-in-Err g c =
 pub returns-in-Ok-totals_text : goal.returns-in-Ok-totals_text
 returns-in-Ok-totals_text g c =
     checked-ends g.H.Hash32.digest_of g.K.Keeper c.args.keeper.now c.read_store.new.keeper g.O.Sink c.in-Ok.opened c.as_bytes.result.now c.args.out.now c.print.new.out c.print.result
-    c.in-Ok.ensures.read (c.as_bytes.ensures ∙ c.in-Ok-totals_text.ensures) c.print.ensures
+    c.in-Ok.ensures.read (c.as_bytes.ensures.value ∙ c.in-Ok-totals_text.ensures) c.print.ensures
 
-pub returns-in-Err-totals_text : goal.returns-in-Err-totals_text
-returns-in-Err-totals_text g c = (let is = c.in-Ok.ensures.read in ((is.keeps, is.steady), refl))
+pub returns : goal.returns
+returns g c = (let is = c.in-Ok.ensures.read in ((is.keeps, is.steady), refl))

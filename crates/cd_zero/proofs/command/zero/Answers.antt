@@ -3,12 +3,12 @@ use Rattle.cd_zero.proofs.ZeroLaws.{ends-taken}
 use Rattle.cd_zero.specs.ZeroCall.{IsInput}
 use Rattle.cd_zero.proofs.command.zero.Goals as goal
 
-pub store-requires-clause-whole : goal.store-requires-clause-whole
-store-requires-clause-whole g c =
+pub store-requires : goal.store-requires
+store-requires g c =
     let found = c.in-Ok-prepared_of.ensures.found in
     let lists = found.2 in
     let whole = lists.whole in
-    whole.fits
+    record { whole = whole.fits }
 
 pub returns-in-Ok-prepared_of : goal.returns-in-Ok-prepared_of
 returns-in-Ok-prepared_of g c =

@@ -9,15 +9,15 @@ use Rattle.cd_zero.specs.Zero.{zero_id, block_text}
 use Rattle.cd_zero.proofs.StoringLaws.{storing-ends, unopened-ends}
 use Rattle.cd_zero.proofs.storing.store.Goals as goal
 
+pub returns-in_default : goal.returns-in_default
+returns-in_default g c = λ state lists.
+    rw (c.of.ensures.status, c.of.ensures.keeper)
+    (record { entries = c.of.ensures.journal; left = inl (inl (record { same_held = refl; same_trail = refl; same_batches = refl })) }, refl, refl)
+
 pub returns-in-Err : goal.returns-in-Err
 returns-in-Err g c = λ state lists.
-    rw (c.of.ensures.status, c.of.ensures.keeper)
-    (record { entries = c.of.ensures.journal; left = inl (record { same_held = refl; same_trail = refl; same_batches = refl }) }, refl, refl)
-
-pub returns-in-Err-open_store : goal.returns-in-Err-open_store
-returns-in-Err-open_store g c = λ state lists.
-    unopened-ends g.H.Hash32.digest_of g.K.Keeper g.O.Sink c.args.name state c.in-Err-open_store.ended.journal.items c.args.out.now c.args.keeper
-    c.in-Err-open_store.ended.keeper c.in-Err-open_store.ended.status c.in-Err-open_store.ensures.refused c.in-Err-open_store.ensures.no_entry
+    unopened-ends g.H.Hash32.digest_of g.K.Keeper g.O.Sink c.args.name state c.in-Err.ended.journal.items c.args.out.now c.args.keeper
+    c.in-Err.ended.keeper c.in-Err.ended.status c.in-Err.ensures.refused c.in-Err.ensures.no_entry
 
 pub returns : goal.returns
 returns g c = λ state lists.
