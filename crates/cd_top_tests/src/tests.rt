@@ -56,8 +56,12 @@ fn told(
 ) -> Result<(Status, Vec<u8>, SteadyKeeper), Fail> {
     let mut input = SteadySource::new(input.to_vec(alloc)?);
     let mut out = SteadySink::new(alloc);
-    let ended = call(alloc, word, &mut input, &mut out, keeper)?;
-    Ok((ended.status, out.taken().to_vec(alloc)?, ended.keeper))
+    let Ended {
+        status,
+        keeper,
+        journal: _,
+    } = call(alloc, word, &mut input, &mut out, keeper)?;
+    Ok((status, out.taken().to_vec(alloc)?, keeper))
 }
 
 /// Whether the one entry is that of a zero state of so many listed cells, and was stored or refused for the keeper.
