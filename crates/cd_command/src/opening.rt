@@ -28,10 +28,7 @@ fn status_by(fault: OpenFault) -> Status
 
 /// Opens the store that a keeper holds, as `open_core` does, with the greatest limit of a count; or gives the end of a
 /// call over one that isn't opened.
-pub fn open_store<K: Keeper, H: Hash32>(
-    alloc: Global,
-    keeper: K,
-) -> Result<Core<K, H>, Ended<K, H>>
+pub fn open_store<K: Keeper, H: Hash32>(alloc: Global, keeper: K) -> Result<Core<K, H>, Ended<K, H>>
     ensures opened { IfOk result (IsOpenedCore H.digest_of K.Keeper keeper GREATEST_COUNT) }
     ensures kept { IfOk result (λ core. IsCore K.held H.digest_of K.trail K.batches K.faults
         core.start core.journal core.keeper) }

@@ -27,7 +27,9 @@ fn work_in(command: Command) -> Result<Work, Status>
 {
     match command {
         Command::Zero {
-            workchain, file, ..
+            workchain,
+            file,
+            ..
         } => Ok(Work::Zero(ZeroName { workchain, file })),
         Command::Check { .. } => Ok(Work::Check),
         Command::Migrate { .. } => Ok(Work::Migrate),

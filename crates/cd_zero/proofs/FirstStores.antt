@@ -65,6 +65,7 @@ module _ (H : List ℕ → Hash256) where
             → IfSome o (λ contents. leads.world ≡ settled (world_of (blocks_in contents)))
         only P None so = tt
         only P (Some contents) so = so.0
+
         by : (o : Option Contents) → leads.world ≡ opened [] → k.held leads.mid ≡ o
             → IfSome o (λ contents. IsHeld k.held H k.trail GREATEST_COUNT (told_in contents leads.world) journal leads.mid now)
             → IfSome (k.held now) (IsContentsOf H (zero.world_of id state))
