@@ -6,3 +6,18 @@ pub mod StageLaws
 pub mod KeeperLaws
 pub mod CallLaws
 pub mod PreparingLaws
+pub mod PinLaws
+pub mod CutLaws
+pub mod SentLaws
+mod TurnLaws
+mod FaceLaws
+mod UpdateLaws
+mod ParentLaws
+mod GatherLaws
+mod MergeLaws
+mod BlockLaws
+mod TaskLaws
+mod SplitLaws
+mod JoinLaws
+mod TwoPins
+mod MergedLaws

@@ -1,7 +1,11 @@
 pub mod Words
 pub mod Prepared
+pub mod Finds
 pub mod Runs
+pub mod Clients
 pub mod Ends
 pub mod Stages
+pub mod Merging
+pub mod Joining
 pub mod Covers
 pub mod ReportText

@@ -1,11 +1,20 @@
 //! Tasks of a feed over any worker's turns: their entries, their outcomes, and the text of the report.
 #![tactic(auto)]
 
+mod block_task;
 mod expire_task;
+mod gather;
 mod holdup;
 mod laws;
+mod merge_words;
+mod merged_task;
 mod outcome;
+mod parent;
+mod pinned;
+mod read_task;
 mod reporting;
+mod serve_task;
+mod slice_task;
 mod task;
 mod words;
 mod zero_task;
