@@ -14,7 +14,7 @@ use Rattle.cd_count.specs.SoundContents.{AreSoundContents}
 use Rattle.cd_core.specs.declared.start.CoreStart.{CoreStart}
 use Rattle.cd_core.specs.Cores.{CoreView, IsCore, IsHeld, batched}
 use Rattle.cd_restart.specs.OpenEnds.{IsOpenedCore}
-use Rattle.cd_command.specs.Opening.{IsOpening, LeadOn, LeadsTo}
+use Rattle.cd_command.specs.Opening.{IsOpening, LeadsTo}
 
 module _ (H : List ℕ → Hash256) {K X : Type 0} (k : KeeperGhosts K) (old : K) (core : CoreView K X)
     (is : IsOpenedCore H k old GREATEST_COUNT core) (kept : IsCore k.held H k.trail k.batches k.faults core.start core.journal core.keeper) where

@@ -5,7 +5,6 @@ use Rattle.std.specs.Ordering.{nat_cmp}
 use Rattle.std.specs.Cmp.Lexicographic.{slice_cmp}
 use Rattle.std.specs.List.{filter_map}
 use Rattle.std.specs.FinMap as finite
-use Rattle.std.proofs.lemmas.Option.{none-some, same_Some}
 use Rattle.cd_base.specs.declared.hash.Hash256.{Hash256}
 use Rattle.cd_block.specs.declared.block.BlockId.{BlockId}
 use Rattle.cd_cell.specs.PreparedView.{PreparedView}

@@ -1,6 +1,5 @@
 -- How storing a listed state ends, by what the opened core answered.
-use Rattle.std.proofs.Common.{◌≡◌, ℕ, Bool, false, List, [], Option, Some, None, Result, Ok, Err, refl, sym, ap, ◌∙◌, subst, cond, inl, inr}
-use Rattle.std.specs.Prelude.{IfSome}
+use Rattle.std.proofs.Common.{◌≡◌, ℕ, Bool, false, List, [], Option, Some, Result, Ok, Err, refl, sym, ap, ◌∙◌, subst, cond, inl, inr}
 use Rattle.cd_base.specs.declared.hash.Hash256.{Hash256}
 use Rattle.cd_base.specs.declared.sink.Sink.{Ghosts as SinkGhosts}
 use Rattle.cd_base.specs.Counts.{Rose}
@@ -15,16 +14,15 @@ use Rattle.cd_event.specs.declared.entry.Reply.TheVariants as reply
 use Rattle.cd_event.specs.declared.event.Event.TheVariants.{Zero}
 use Rattle.cd_event.specs.declared.faults.ZeroFault.{ZeroFault}
 use Rattle.cd_event.specs.declared.faults.ZeroFault.TheVariants as zero
-use Rattle.cd_event.specs.declared.refusal.Refusal.{Refusal}
 use Rattle.cd_event.specs.declared.refusal.Refusal.TheVariants as store
-use Rattle.cd_event.specs.Replies.{entries_of, entry_of, zero_refusal, zero_reply}
+use Rattle.cd_event.specs.Replies.{entries_of, zero_refusal, zero_reply}
 use Rattle.cd_event.specs.Turning.{is_keeper, RisesOnly}
 use Rattle.cd_world.specs.Told.{ToldWorld, told_replay, made}
 use Rattle.cd_world.proofs.PinsStay.{same_id-self}
 use Rattle.cd_command.specs.declared.status.Status.{Status}
 use Rattle.cd_command.specs.declared.status.Status.TheVariants as status
 use Rattle.cd_command.specs.Printing.{HasGot, HasFailed, PrintingEnds}
-use Rattle.cd_command.specs.Opening.{IsUnopenedBy, IsIdle, LeadsTo}
+use Rattle.cd_command.specs.Opening.{IsUnopenedBy, LeadsTo}
 use Rattle.cd_zero.specs.declared.name.ZeroName.{ZeroName}
 use Rattle.cd_zero.specs.Storing.{TellingEnds}
 use Rattle.cd_zero.specs.Zero.{first_task, zero_id, zero_text, status_by_store, state_at, IsListOf}

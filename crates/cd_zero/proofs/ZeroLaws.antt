@@ -1,11 +1,10 @@
 -- How the command `zero` ends: over a bag of a state as storing that ends, and over other bytes as their refusal says.
-use Rattle.std.proofs.Common.{ℕ, List, refl, ap, inl}
+use Rattle.std.proofs.Common.{ℕ, List, ap, inl}
 use Rattle.cd_base.specs.declared.hash.Hash256.{Hash256}
 use Rattle.cd_base.specs.declared.source.Source.{Ghosts as SourceGhosts}
 use Rattle.cd_base.specs.declared.sink.Sink.{Ghosts as SinkGhosts}
 use Rattle.cd_cell.specs.Tree.{Tree}
 use Rattle.cd_keeper.specs.declared.keeper.Keeper.{Ghosts as KeeperGhosts}
-use Rattle.cd_keeper.specs.Keeping.{KeepsHeld}
 use Rattle.cd_event.specs.declared.entry.Entry.{Entry}
 use Rattle.cd_command.specs.declared.status.Status.{Status}
 use Rattle.cd_command.specs.declared.status.Status.TheVariants as status

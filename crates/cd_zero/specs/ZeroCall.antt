@@ -11,7 +11,6 @@ use Rattle.cd_event.specs.declared.entry.Entry.{Entry}
 use Rattle.cd_event.specs.declared.entry.Reply.{Reply}
 use Rattle.cd_event.specs.declared.entry.Reply.TheVariants as reply
 use Rattle.cd_event.specs.declared.event.Event.TheVariants.{Zero}
-use Rattle.cd_event.specs.declared.refusal.Refusal.{Refusal}
 use Rattle.cd_event.specs.declared.refusal.Refusal.TheVariants as store
 use Rattle.cd_event.specs.Replies.{entry_of}
 use Rattle.cd_keeper.specs.declared.keeper.Keeper.{Ghosts as KeeperGhosts}

@@ -1,5 +1,5 @@
 //! A prepared state is stored, and its text is written.
-ghost use Rattle.std.specs.Prelude.{◌≡◌, [], string_bytes};
+ghost use Rattle.std.specs.Prelude.{◌≡◌, []};
 ghost use Rattle.cd_cell.specs.Listings.{Fits};
 ghost use Rattle.cd_cell.specs.Tree.{Tree};
 ghost use Rattle.cd_event.specs.declared.event.Event.TheVariants.{Zero};

@@ -1,5 +1,5 @@
 -- Trusted: the database that words name.
-use Rattle.std.specs.Prelude.{◌≡◌, ℕ, List, Option, Some, None, MatchOption, String, string_bytes, option_map}
+use Rattle.std.specs.Prelude.{◌≡◌, ℕ, List, Option, Some, None, string_bytes, option_map}
 use Rattle.cd_words.specs.declared.command.Command.{Command}
 use Rattle.cd_words.specs.declared.command.Command.TheVariants as command
 use Rattle.cd_words.specs.Reading.{HasCommand}

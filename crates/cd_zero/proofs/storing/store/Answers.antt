@@ -1,4 +1,4 @@
-use Rattle.std.proofs.Common.{◌≡◌, List, length, refl, sym, ap, ◌∙◌, subst₂, inl}
+use Rattle.std.proofs.Common.{◌≡◌, length, refl, ap, ◌∙◌, inl}
 use Rattle.std.proofs.lemmas.List.{length-map}
 use Rattle.cd_cell.specs.Export.{distinct_cells}
 use Rattle.cd_cell.specs.Infos.{rep_of_info}
