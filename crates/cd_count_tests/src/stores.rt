@@ -33,7 +33,12 @@ pub(crate) fn bytes_of(alloc: Global, cells: &[Cell]) -> Result<Vec<u8>, Fail> {
 /// The state with these cells, prepared.
 pub(crate) fn state<H: Hash32>(alloc: Global, cells: &[Cell]) -> Result<Prepared<H>, Fail> {
     let bytes = bytes_of(alloc, cells)?;
-    let bag: Bag<H> = match read_bag(alloc, bytes.as_slice()) {
+    prepared(alloc, bytes.as_slice())
+}
+
+/// The state of a bag, prepared.
+pub(crate) fn prepared<H: Hash32>(alloc: Global, bytes: &[u8]) -> Result<Prepared<H>, Fail> {
+    let bag: Bag<H> = match read_bag(alloc, bytes) {
         Ok(bag) => bag,
         Err(_) => return Err(Fail::from("no bag")),
     };

@@ -8,6 +8,8 @@ use cd_event::{
     UnpinFault, Who, ZeroFault,
 };
 use std::alloc::Global;
+use std::fmt::Display;
+use std::process::Abort;
 use std::test::Fail;
 
 const EMPTY_CELL: Hash256 = Hash256([
@@ -29,6 +31,14 @@ const ID: BlockId = BlockId {
     file: Hash256([0; 32]),
 };
 
+/// Each of these faults is printed as is due.
+fn check_texts<F: Display>(rt: &impl Abort, alloc: Global, rows: &[(F, &str)]) -> Result<(), Fail> {
+    for (fault, due) in rows {
+        assert_eq!(rt; fault.to_string(alloc)?.as_str(), *due);
+    }
+    Ok(())
+}
+
 #[test]
 fn the_texts_of_faults(rt: HostRuntime) -> Result<(), Fail> {
     let alloc = rt.alloc();
@@ -36,7 +46,7 @@ fn the_texts_of_faults(rt: HostRuntime) -> Result<(), Fail> {
     let lineage = LineageFault::Seqno { stated: 1, due: 0 };
     let hash = ONES;
     let count = 7;
-    for (fault, text) in [
+    let rows = [
         (ZeroFault::Known, "a block of this name is there"),
         (
             ZeroFault::Lineage(lineage),
@@ -63,10 +73,9 @@ fn the_texts_of_faults(rt: HostRuntime) -> Result<(), Fail> {
         ),
         (ZeroFault::Keeper, "the keeper failed"),
         (ZeroFault::Memory, "out of memory"),
-    ] {
-        assert_eq!(rt; format!(in alloc; "{fault}")?.as_str(), text);
-    }
-    for (fault, text) in [
+    ];
+    check_texts(&rt, alloc, &rows)?;
+    let rows = [
         (MergeFault::NoPin, "the worker has no such pin"),
         (
             MergeFault::WrongPin,
@@ -91,40 +100,35 @@ fn the_texts_of_faults(rt: HostRuntime) -> Result<(), Fail> {
         ),
         (MergeFault::Keeper, "the keeper failed"),
         (MergeFault::Memory, "out of memory"),
-    ] {
-        assert_eq!(rt; format!(in alloc; "{fault}")?.as_str(), text);
-    }
-    Ok(())
+    ];
+    check_texts(&rt, alloc, &rows)
 }
 
 #[test]
 fn the_texts_of_smaller_faults(rt: HostRuntime) -> Result<(), Fail> {
     let alloc = rt.alloc();
-    for (fault, text) in [
+    let rows = [
         (PinFault::UnknownBlock, "no block of this name is kept"),
         (
             PinFault::PinsFull,
             "the worker has as many pins as it may have",
         ),
         (PinFault::Memory, "out of memory"),
-    ] {
-        assert_eq!(rt; format!(in alloc; "{fault}")?.as_str(), text);
-    }
-    for (fault, text) in [
+    ];
+    check_texts(&rt, alloc, &rows)?;
+    let rows = [
         (LookFault::NoPin, "the worker has no such pin"),
         (LookFault::Keeper, "the keeper failed"),
         (LookFault::Memory, "out of memory"),
-    ] {
-        assert_eq!(rt; format!(in alloc; "{fault}")?.as_str(), text);
-    }
-    for (fault, text) in [
+    ];
+    check_texts(&rt, alloc, &rows)?;
+    let rows = [
         (UnpinFault::NoPin, "the worker has no such pin"),
         (UnpinFault::Keeper, "the keeper failed"),
         (UnpinFault::Memory, "out of memory"),
-    ] {
-        assert_eq!(rt; format!(in alloc; "{fault}")?.as_str(), text);
-    }
-    for (fault, text) in [
+    ];
+    check_texts(&rt, alloc, &rows)?;
+    let rows = [
         (ExpireFault::UnknownBlock, "no block of this name is kept"),
         (
             ExpireFault::NotMaster,
@@ -136,10 +140,8 @@ fn the_texts_of_smaller_faults(rt: HostRuntime) -> Result<(), Fail> {
         ),
         (ExpireFault::Keeper, "the keeper failed"),
         (ExpireFault::Memory, "out of memory"),
-    ] {
-        assert_eq!(rt; format!(in alloc; "{fault}")?.as_str(), text);
-    }
-    Ok(())
+    ];
+    check_texts(&rt, alloc, &rows)
 }
 
 /// An entry of one look, of which a test tells one from another by its pin.
@@ -196,6 +198,18 @@ fn a_journal_grows_changes_and_is_taken_back(rt: HostRuntime) -> Result<(), Fail
     Ok(())
 }
 
+/// These entries say what is due.
+fn check_entries(
+    rt: &impl Abort,
+    entries: &[Entry<Sha>],
+    due: &[(Who, Option<u64>, &'static str)],
+) {
+    assert_eq!(rt; entries.len(), due.len());
+    for (entry, due) in entries.iter().zip(due) {
+        assert_eq!(rt; said(entry), *due);
+    }
+}
+
 #[test]
 fn each_call_makes_its_entry(rt: HostRuntime) -> Result<(), Fail> {
     let alloc = rt.alloc();
@@ -216,7 +230,7 @@ fn each_call_makes_its_entry(rt: HostRuntime) -> Result<(), Fail> {
         worker: 9,
         task: 5,
     };
-    let wanted = [
+    let due = [
         (who, None, "stored"),
         (who, None, "pinned"),
         (who, None, "refused"),
@@ -224,10 +238,7 @@ fn each_call_makes_its_entry(rt: HostRuntime) -> Result<(), Fail> {
         (who, Some(0), "unpinned"),
         (who, None, "expired"),
     ];
-    assert_eq!(rt; turns.entries().len(), wanted.len());
-    for (entry, wanted) in turns.entries().iter().zip(wanted) {
-        assert_eq!(rt; said(entry), wanted);
-    }
+    check_entries(&rt, turns.entries(), &due);
     Ok(())
 }
 

@@ -8,4 +8,8 @@ pub use listed::ListedLook;
 pub use watched::{Count, Failing, Watching};
 
 #[cfg(test)]
+mod pieces;
+#[cfg(test)]
 mod tests;
+#[cfg(test)]
+mod vectors;

@@ -2,26 +2,31 @@ ghost use Rattle.std.specs.Prelude.{IfSome};
 ghost use Rattle.cd_cell.specs.GoodFace.{IsGoodFace};
 
 use cd_base::Hash256;
-use cd_cell::{Face, Sha};
+use cd_cell::{Face, NewCell, Sha};
 use cd_event::{LookFault, LookUp};
-use std::alloc::Global;
+use std::alloc::{AllocError, Global};
+use std::collections::BTreeMap;
 
-/// A look at listed cells in memory. It tells no state, and never fails.
+/// A look at cells in memory. It tells no state, and never fails.
 #[derive(Drop)]
 pub struct ListedLook {
     alloc: Global,
-    cells: Vec<(Hash256, Face)>,
+    cells: BTreeMap<Hash256, Face>,
     asked: u64,
 }
 
 impl ListedLook {
     /// A look at these cells that was asked nothing.
-    pub fn new(alloc: Global, cells: Vec<(Hash256, Face)>) -> ListedLook {
-        ListedLook {
+    pub fn of(alloc: Global, listed: &[NewCell]) -> Result<ListedLook, AllocError> {
+        let mut cells = BTreeMap::new(alloc);
+        for cell in listed {
+            cells.insert(cell.hash, cell.face)?;
+        }
+        Ok(ListedLook {
             alloc,
             cells,
             asked: 0,
-        }
+        })
     }
 
     /// How many hashes were asked.
@@ -33,12 +38,10 @@ impl ListedLook {
     fn face(&self, hash: &Hash256) -> Option<Face>
         ensures { IfSome result IsGoodFace }
     {
-        for (known, face) in &self.cells {
-            if known == hash && face.check().is_ok() {
-                return Some(*face);
-            }
+        match self.cells.get(hash) {
+            Some(face) if face.check().is_ok() => Some(*face),
+            _ => None,
         }
-        None
     }
 }
 

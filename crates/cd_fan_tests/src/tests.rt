@@ -1,14 +1,19 @@
+use crate::pieces::joined;
 use crate::{Failing, ListedLook, Watching};
 use cd_base::{Failed, Hash256};
-use cd_cell::{Bits, ChildInfo, Face, Sha, face_info};
+use cd_cell::{Bits, ChildInfo, Face, NewCell, Sha, face_info};
 use cd_event::LookUp;
-use cd_fan::{Client, ClientEnd, MemoryClient, fan_out};
+use cd_fan::{Client, ClientEnd, FileClient, MemoryClient, fan_out};
 use cd_reader::{Reader, WalkFault};
 use cd_slices::{Export, SliceFault};
 use std::alloc::Global;
+use std::fs;
 use std::sync::Arc;
 use std::sync::atomic::{AtomicU64, Ordering};
 use std::test::*;
+
+// A file in the folder that the test is run in.
+const FILE: &str = "cd_fan_tests_client";
 
 fn empty() -> Face {
     Face::new(false, Bits::from_slice(&[], 0).unwrap(), &[])
@@ -25,9 +30,11 @@ fn info_of(face: &Face) -> Result<ChildInfo, Fail> {
 // The empty cell alone.
 fn one_cell(alloc: Global) -> Result<(ListedLook, ChildInfo), Fail> {
     let info = info_of(&empty())?;
-    let mut cells = Vec::new(alloc);
-    cells.push((info.rep(), empty()))?;
-    Ok((ListedLook::new(alloc, cells), info))
+    let cell = NewCell {
+        hash: info.rep(),
+        face: empty(),
+    };
+    Ok((ListedLook::of(alloc, &[cell])?, info))
 }
 
 // A root with the empty cell in all four places.
@@ -35,10 +42,17 @@ fn four_places(alloc: Global) -> Result<(ListedLook, ChildInfo), Fail> {
     let kid = info_of(&empty())?;
     let root = Face::new(false, Bits::from_slice(&[], 0).unwrap(), &[kid; 4]);
     let info = info_of(&root)?;
-    let mut cells = Vec::new(alloc);
-    cells.push((kid.rep(), empty()))?;
-    cells.push((info.rep(), root))?;
-    Ok((ListedLook::new(alloc, cells), info))
+    let cells = [
+        NewCell {
+            hash: kid.rep(),
+            face: empty(),
+        },
+        NewCell {
+            hash: info.rep(),
+            face: root,
+        },
+    ];
+    Ok((ListedLook::of(alloc, &cells)?, info))
 }
 
 #[test]
@@ -115,21 +129,6 @@ fn slices_of_one_byte_join_to_the_export(rt: HostRuntime) -> Result<(), Fail> {
     Ok(())
 }
 
-// All slices of this size, one behind the other.
-fn joined(
-    alloc: Global,
-    export: &Export,
-    look: &mut ListedLook,
-    size: u32,
-) -> Result<Vec<u8>, Fail> {
-    let mut text = Vec::new(alloc);
-    for _ in 0..export.len() {
-        let piece = export.slice(alloc, look, text.len() as u64, size)?;
-        text.extend_from_slice(&piece)?;
-    }
-    Ok(text)
-}
-
 #[test]
 fn the_export_of_four_places(rt: HostRuntime) -> Result<(), Fail> {
     let alloc = rt.alloc();
@@ -166,6 +165,29 @@ fn the_second_of_three_clients_fails(rt: HostRuntime) -> Result<(), Fail> {
         ClientEnd::Done { bytes: 18 },
     ];
     assert_eq!(rt; ends.as_slice(), due.as_slice());
+    Ok(())
+}
+
+#[test]
+fn a_file_gets_the_whole_text(rt: HostRuntime) -> Result<(), Fail> {
+    let alloc = rt.alloc();
+    let (mut look, root) = four_places(alloc)?;
+    let export = Export::plan(alloc, &mut look, &root)?;
+    let mut clients: Vec<Client> = Vec::new(alloc);
+    let client = match FileClient::create(&rt, FILE) {
+        Ok(client) => client,
+        Err(_) => return Err(Fail::from("no file")),
+    };
+    clients.push(Box::new(alloc, client)?)?;
+    let ends = fan_out(alloc, &export, &mut look, &mut clients, 7)?;
+    drop(clients);
+    let text = fs::read(&rt, FILE)?;
+    fs::remove_file(&rt, FILE)?;
+    assert_eq!(rt; ends.as_slice(), [ClientEnd::Done { bytes: 25 }].as_slice());
+    assert_eq!(rt;
+        text.as_slice(),
+        joined(alloc, &export, &mut look, 100)?.as_slice()
+    );
     Ok(())
 }
 

@@ -1,4 +1,5 @@
 pub mod ListingLaws
 pub mod WriterLaws
+pub mod PrunedLaws
 pub mod OrderLaws
 pub mod PhaseLaws

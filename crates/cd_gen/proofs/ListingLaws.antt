@@ -1,5 +1,5 @@
 -- Laws of the cells of a tree as they are listed.
-use Rattle.std.proofs.Common.{◌≡◌, ℕ, zero, suc, ◌+◌, ◌*◌, ◌^◌, ◌<◌, Bool, false, List, [], ◌∷◌, ◌++◌, length, map, reverse, get_or, take, drop, Result, Ok, Err, IfOk, OnOk, refl, sym, ap, ap₂, ◌∙◌, arith}
+use Rattle.std.proofs.Common.{◌≡◌, ℕ, zero, suc, ◌+◌, ◌*◌, ◌^◌, ◌<◌, Bool, true, false, List, [], ◌∷◌, ◌++◌, length, map, reverse, get_or, take, drop, Result, Ok, Err, IfOk, OnOk, refl, sym, ap, ap₂, ◌∙◌, arith}
 use Rattle.std.proofs.Math.Nat.{pow-suc}
 use Rattle.std.proofs.lemmas.List.{append-nil, append_assoc, map-append, reverse-append, length-map, length-reverse, length-append, get_or_push, length_push, take_at, drop_at}
 use Rattle.cd_cell.specs.declared.info.ChildInfo.{ChildInfo}
@@ -7,8 +7,9 @@ use Rattle.cd_cell.specs.FaceView.{FaceView}
 use Rattle.cd_cell.specs.Levels.{info_of_face}
 use Rattle.cd_cell.specs.Tree.{Tree, Trees, cell, no_trees, tree_and, subtrees, subtrees_of_all, info_of, face_of}
 use Rattle.cd_gen.specs.declared.cell.Cell.{Cell}
-use Rattle.cd_gen.specs.States.{sha, over, full}
-use Rattle.cd_gen.specs.Listing.{turned, faces_of, infos_of, faces, IsListed, IsKept}
+use Rattle.cd_gen.specs.States.{sha, over, full, pruned}
+use Rattle.cd_gen.specs.Listing.{turned, faces_of, infos_of, faces, pruned_face, at_level_0, IsListed, IsListedAfter}
+use Rattle.cd_gen.proofs.PrunedLaws.{over-shows, alone-shows}
 
 -- ---- a cell and those below it
 
@@ -120,33 +121,70 @@ listed-pair (Ok info) exotic bits left right face a b c d l k first second is li
     }
 listed-pair (Err e) exotic bits left right face a b c d l k first second is listed root = tt
 
--- the same of what the cells show
-pub kept-alone : {E : Type 0} (r : Result ChildInfo E) (exotic : Bool) (bits : List Bool) (face : FaceView) (old new : List ChildInfo) → face ≡ face_of sha (cell exotic bits no_trees)
-    → IfOk r (λ info. new ≡ old ++ info ∷ []) → IfOk r (λ info. info ≡ info_of_face sha face) → IfOk r (λ info. IsKept (cell exotic bits no_trees) old new info)
-kept-alone (Ok info) exotic bits face old new is kept root =
-    let whole = root ∙ ap (info_of_face sha) is in record {
-      infos = kept ∙ ap (λ x. old ++ x ∷ []) whole ∙ ap (λ xs. old ++ xs) (sym (turned-alone (info_of sha) exotic bits));
-      root = whole;
-    }
-kept-alone (Err e) exotic bits face old new is kept root = tt
+-- the cells of a full tree show the same at each level
+pub full-plain : (number chain seqno levels first : ℕ) → at_level_0 (info_of sha (full number chain seqno levels first)) ≡ info_of sha (full number chain seqno levels first)
+unfolding full
+full-plain number chain seqno zero first = alone-shows _
+full-plain number chain seqno (suc levels) first =
+    let left = full number chain seqno levels first in
+    let right = full number chain seqno levels (first + 2 ^ levels) in
+    over-shows (info_of sha left) (info_of sha right)
+    ∙ ap₂ (λ x y. info_of_face sha (pair_of false [] x y)) (full-plain number chain seqno levels first) (full-plain number chain seqno levels (first + 2 ^ levels))
 
-pub kept-pair : {E : Type 0} (r : Result ChildInfo E) (left right : Tree) (face : FaceView) (a b c d : List ChildInfo) (l k : ChildInfo)
-    → IsKept right a b k → IsKept left b c l → face ≡ record { exotic = false; bits = []; kids = l ∷ k ∷ [] }
-    → IfOk r (λ info. d ≡ c ++ info ∷ []) → IfOk r (λ info. info ≡ info_of_face sha face) → IfOk r (λ info. IsKept (over left right) a d info)
-kept-pair (Ok info) left right face a b c d l k first second is kept root =
-    let t = over left right in
-    let whole = root ∙ ap (info_of_face sha) (is ∙ pair_face false [] l (info_of sha left) k (info_of sha right) second.root first.root) in
+-- a pruned branch in the place of a state's tree, whose cells are kept as they are
+pub after-hidden : {E : Type 0} (r : Result ChildInfo E) (state : Tree) (face : FaceView) (old new : List Cell) (before after : List ChildInfo) (root : ChildInfo) → root ≡ info_of sha state → at_level_0 (info_of sha state) ≡ info_of sha state
+    → face ≡ pruned_face root → at_level_0 (info_of_face sha face) ≡ at_level_0 root
+    → OnOk r (faces new ≡ faces old ++ face ∷ []) → IfOk r (λ info. info ≡ info_of_face sha face) → after ≡ before ++ infos_of state
+    → IfOk r (λ info. IsListedAfter (pruned state) state old new before after info)
+after-hidden (Ok info) state face old new before after root root-is flat is shows listed info-is kept =
+    let all = listed-alone {E = ⊥} (Ok info) true _ face old new (is ∙ ap pruned_face root-is) listed info-is in
     record {
-      infos =
-          kept
-          ∙ ap (λ x. c ++ x ∷ []) whole
-          ∙ ap (λ xs. xs ++ info_of sha t ∷ []) (second.infos ∙ ap (λ xs. xs ++ infos_of left) first.infos)
-          ∙ append_assoc (a ++ infos_of right) (infos_of left) (info_of sha t ∷ [])
-          ∙ append_assoc a (infos_of right) (infos_of left ++ info_of sha t ∷ [])
-          ∙ ap (λ xs. a ++ xs) (sym (turned-pair (info_of sha) false [] left right));
-      root = whole;
+      cells = all.cells;
+      root = all.root;
+      kept = kept;
+      plain = ap at_level_0 info-is ∙ shows ∙ ap at_level_0 root-is ∙ flat;
     }
-kept-pair (Err e) left right face a b c d l k first second is kept root = tt
+after-hidden (Err e) state face old new before after root root-is flat is shows listed info-is kept = tt
+
+-- the same where what the cells of a state show is kept beside
+pub after-alone : {E : Type 0} (r : Result ChildInfo E) (bits : List Bool) (face : FaceView) (old new : List Cell) (before after : List ChildInfo) → face ≡ face_of sha (cell false bits no_trees)
+    → OnOk r (faces new ≡ faces old ++ face ∷ []) → IfOk r (λ info. after ≡ before ++ at_level_0 info ∷ []) → IfOk r (λ info. info ≡ info_of_face sha face)
+    → IfOk r (λ info. IsListedAfter (cell false bits no_trees) (cell false bits no_trees) old new before after info)
+after-alone (Ok info) bits face old new before after is listed kept root =
+    let t = cell false bits no_trees in
+    let all = listed-alone {E = ⊥} (Ok info) false bits face old new is listed root in
+    let plain : at_level_0 info ≡ info_of sha t = ap at_level_0 all.root ∙ alone-shows bits in
+    record {
+      cells = all.cells;
+      root = all.root;
+      kept = kept ∙ ap (λ x. before ++ x ∷ []) plain ∙ ap (λ xs. before ++ xs) (sym (turned-alone (info_of sha) false bits));
+      plain = plain;
+    }
+after-alone (Err e) bits face old new before after is listed kept root = tt
+
+pub after-pair : {E : Type 0} (r : Result ChildInfo E) (left right left' right' : Tree) (face : FaceView) (a b c d : List Cell) (p q s w : List ChildInfo) (l k : ChildInfo)
+    → IsListedAfter right right' a b p q k → IsListedAfter left left' b c q s l → face ≡ record { exotic = false; bits = []; kids = l ∷ k ∷ [] }
+    → OnOk r (faces d ≡ faces c ++ face ∷ []) → IfOk r (λ info. w ≡ s ++ at_level_0 info ∷ []) → IfOk r (λ info. info ≡ info_of_face sha face)
+    → IfOk r (λ info. IsListedAfter (over left right) (over left' right') a d p w info)
+after-pair (Ok info) left right left' right' face a b c d p q s w l k first second is listed kept root =
+    let t = over left' right' in
+    let right-listed : IsListed right a b k = record { cells = first.cells; root = first.root } in
+    let left-listed : IsListed left b c l = record { cells = second.cells; root = second.root } in
+    let all = listed-pair {E = ⊥} (Ok info) false [] left right face a b c d l k right-listed left-listed is listed root in
+    let plain : at_level_0 info ≡ info_of sha t = ap at_level_0 (root ∙ ap (info_of_face sha) is) ∙ over-shows l k ∙ ap₂ (λ x y. info_of_face sha (pair_of false [] x y)) second.plain first.plain in
+    record {
+      cells = all.cells;
+      root = all.root;
+      kept =
+          kept
+          ∙ ap (λ x. s ++ x ∷ []) plain
+          ∙ ap (λ xs. xs ++ info_of sha t ∷ []) (second.kept ∙ ap (λ xs. xs ++ infos_of left') first.kept)
+          ∙ append_assoc (p ++ infos_of right') (infos_of left') (info_of sha t ∷ [])
+          ∙ append_assoc p (infos_of right') (infos_of left' ++ info_of sha t ∷ [])
+          ∙ ap (λ xs. p ++ xs) (sym (turned-pair (info_of sha) false [] left' right'));
+      plain = plain;
+    }
+after-pair (Err e) left right left' right' face a b c d p q s w l k first second is listed kept root = tt
 
 -- ---- cells that alone are listed
 

@@ -1,5 +1,5 @@
 -- Inner: the cells of a tree as the generator lists them.
-use Rattle.std.specs.Prelude.{◌≡◌, ℕ, true, List, [], ◌∷◌, ◌++◌, map, reverse}
+use Rattle.std.specs.Prelude.{◌≡◌, ℕ, true, List, [], ◌∷◌, ◌++◌, map, replicate, reverse}
 use Rattle.std.specs.Int.{w16, to_be_bytes}
 use Rattle.cd_cell.specs.declared.info.ChildInfo.{ChildInfo}
 use Rattle.cd_cell.specs.FaceView.{FaceView}
@@ -45,7 +45,14 @@ pub record IsListed (t : Tree) (old new : List Cell) (info : ChildInfo) : Type 0
   pub cells : faces new ≡ faces old ++ faces_of t
   pub root : info ≡ info_of sha t
 
--- the same of what the cells show
-pub record IsKept (t : Tree) (old new : List ChildInfo) (info : ChildInfo) : Type 0 where
-  pub infos : new ≡ old ++ infos_of t
+-- what a cell of mask 0 shows with this hash and this depth at level 0
+abbrev pub at_level_0 : ChildInfo → ChildInfo
+at_level_0 info = record { mask = 0; hashes = replicate 4 (info_hash info 0); depths = replicate 4 (info_depth info 0) }
+
+-- the cells that an update shows of a state are listed behind the others, and what the state's cells show is kept behind
+-- the same of others
+pub record IsListedAfter (t state : Tree) (old new : List Cell) (before after : List ChildInfo) (info : ChildInfo) : Type 0 where
+  pub cells : faces new ≡ faces old ++ faces_of t
   pub root : info ≡ info_of sha t
+  pub kept : after ≡ before ++ infos_of state
+  pub plain : at_level_0 info ≡ info_of sha state

@@ -31,16 +31,6 @@ pub fn list(cells: &mut Vec<Cell>, face: Face) -> Result<ChildInfo, Memory>
     Ok(info)
 }
 
-/// Keeps what a cell shows, and answers it.
-pub fn keep(infos: &mut Vec<ChildInfo>, face: Face) -> Result<ChildInfo, Memory>
-    ensures kept { IfOk result (λ info. infos.new.items ≡ infos.old.items ++ info ∷ []) }
-    ensures info { IfOk result (λ info. info ≡ info_of_face sha face) }
-{
-    let info = cell_of(face)?.info;
-    infos.push(info)?;
-    Ok(info)
-}
-
 /// What each of these cells shows.
 pub fn infos_of(alloc: Global, cells: &[Cell]) -> Result<Vec<ChildInfo>, AllocError>
     ensures { IfOk result (λ infos. infos.items ≡ map (λ c. c.info) cells.now) }

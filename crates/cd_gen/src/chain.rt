@@ -1,4 +1,4 @@
-ghost use Rattle.std.specs.Prelude.{◌≡◌, ◌+◌, ◌-◌, IfOk, OnOk};
+ghost use Rattle.std.specs.Prelude.{◌≡◌, ◌+◌, ◌-◌, ◌++◌, IfOk, OnOk};
 ghost use Rattle.cd_feed.specs.Feeds.{IsBagFit};
 ghost use Rattle.cd_gen.specs.States.{state_of, zero_root};
 ghost use Rattle.cd_gen.specs.Listing.{infos_of};
@@ -7,7 +7,7 @@ ghost use Rattle.cd_gen.specs.Generated.{zero_bag, update_bag};
 use crate::cells::{infos_of, list};
 use crate::export::bag_of;
 use crate::states::{Owner, list_full};
-use crate::updates::{Block, View, keep_state, list_shown, update};
+use crate::updates::{Block, list_after, list_before, update};
 use cd_base::{Hash256, Memory};
 use cd_cell::ChildInfo;
 use cd_feed::Bytes;
@@ -15,6 +15,9 @@ use std::alloc::Global;
 
 /// The number of cells of a state.
 const STATE_CELLS: usize = 1023;
+
+/// The number of cells listed for an update: two halves of 319 cells, and the update itself.
+const UPDATE_CELLS: usize = 639;
 
 /// The levels of a state over its leaves.
 const LEVELS: u32 = 9;
@@ -73,39 +76,34 @@ impl Chain {
             owner: self.owner,
             seqno,
         };
-        let bag = update_of(alloc, &self.state, &block)?;
-        self.state = state_after(alloc, &self.state, &block)?;
+        let mut state = Vec::with_capacity(alloc, STATE_CELLS)?;
+        let bag = update_of(alloc, &self.state, &block, &mut state)?;
+        self.state = state;
         self.seqno = seqno;
         Ok(bag)
     }
 }
 
-/// The bag of a block's update. `state` is what the cells of the state before show.
-fn update_of(alloc: Global, state: &[ChildInfo], block: &Block) -> Result<Bytes, Memory>
+/// The bag of a block's update. `state` is what the cells of the state before show; what those of the block's state show is
+/// put behind `next`.
+fn update_of(
+    alloc: Global,
+    state: &[ChildInfo],
+    block: &Block,
+    next: &mut Vec<ChildInfo>,
+) -> Result<Bytes, Memory>
     requires { state.now ≡ infos_of (state_of block.now.owner.number block.now.owner.chain
         (block.now.seqno - 1)) }
     ensures short { IfOk result (λ bag. IsBagFit bag) }
     ensures bag { IfOk result (λ bag. bag
         ≡ update_bag block.now.owner.number block.now.owner.chain block.now.seqno) }
+    ensures next { OnOk result (next.new.items ≡ next.old.items
+        ++ infos_of (state_of block.now.owner.number block.now.owner.chain block.now.seqno)) }
 {
-    let old = View::before(block);
-    let new = View::after(block);
-    let mut cells = Vec::with_capacity(alloc, STATE_CELLS)?;
-    let new = list_shown(&mut cells, state, &new, LEVELS, 0)?;
-    let old = list_shown(&mut cells, state, &old, LEVELS, 0)?;
+    let mut cells = Vec::with_capacity(alloc, UPDATE_CELLS)?;
+    let new = list_after(&mut cells, next, state, block, LEVELS, 0)?;
+    let old = list_before(&mut cells, state, block, LEVELS, 0)?;
     let face = update(alloc, &old, &new)?;
     list(&mut cells, face)?;
     bag_of(alloc, &cells)
-}
-
-/// What the cells of a block's state show, by those of the state before.
-fn state_after(alloc: Global, state: &[ChildInfo], block: &Block) -> Result<Vec<ChildInfo>, Memory>
-    requires { state.now ≡ infos_of (state_of block.now.owner.number block.now.owner.chain
-        (block.now.seqno - 1)) }
-    ensures { IfOk result (λ infos. infos.items
-        ≡ infos_of (state_of block.now.owner.number block.now.owner.chain block.now.seqno)) }
-{
-    let mut infos = Vec::with_capacity(alloc, STATE_CELLS)?;
-    keep_state(&mut infos, state, block, LEVELS, 0)?;
-    Ok(infos)
 }

@@ -1,4 +1,5 @@
 ghost use Rattle.std.specs.Prelude.{◌≡◌, ◌+◌, ◌-◌, ◌*◌, ◌^◌, ◌≤◌, ◌<◌, false, [], ◌∷◌, length, IfOk};
+ghost use Rattle.cd_cell.specs.BitText.{data_of};
 ghost use Rattle.cd_cell.specs.Tree.{face_of};
 ghost use Rattle.cd_gen.specs.States as spec;
 ghost use Rattle.cd_gen.specs.States.{sha};
@@ -19,7 +20,8 @@ pub struct Owner {
 /// All bits of these bytes.
 pub fn bits_of(bytes: &[u8]) -> Bits
     requires { length bytes.now ≤ 127 }
-    ensures { result ≡ spec.bits_of bytes.now }
+    ensures bits { result ≡ spec.bits_of bytes.now }
+    ensures data { data_of result ≡ bytes.now }
 {
     match Bits::from_slice(bytes, 8 * bytes.len() as u16) {
         Some(bits) => bits,

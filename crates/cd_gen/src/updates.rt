@@ -1,13 +1,15 @@
-ghost use Rattle.std.specs.Prelude.{◌≡◌, ◌+◌, ◌-◌, ◌*◌, ◌^◌, ◌≤◌, ◌<◌, ℕ, true, false, [], ◌∷◌, ◌++◌, length, IfOk};
+ghost use Rattle.std.specs.Prelude.{◌≡◌, ◌+◌, ◌-◌, ◌*◌, ◌^◌, ◌≤◌, ◌<◌, [], ◌∷◌, ◌++◌, length, IfOk, OnOk};
+ghost use Rattle.cd_cell.specs.Infos.{info_depth};
+ghost use Rattle.cd_cell.specs.Levels.{info_of_face};
 ghost use Rattle.cd_cell.specs.Tree.{Tree, info_of};
-ghost use Rattle.cd_gen.specs.States.{sha, over, is_written, writer_of, some_written, full, shown};
-ghost use Rattle.cd_gen.specs.Listing.{hash_bytes, depth_bytes, pruned_face, update_face, infos_of, IsListed, IsKept};
+ghost use Rattle.cd_gen.specs.States.{sha, over, some_written, full, shown};
+ghost use Rattle.cd_gen.specs.Listing.{hash_bytes, depth_bytes, pruned_face, update_face, faces, infos_of, at_level_0, IsListed, IsListedAfter};
 
 use crate::cell::Cell;
-use crate::cells::{keep, list};
+use crate::cells::list;
 use crate::states::{Owner, bits_of, inner, leaf, leaves_under};
 use cd_base::Memory;
-use cd_cell::{ChildInfo, Face};
+use cd_cell::{ChildInfo, Face, Mask};
 use std::alloc::{AllocError, Global};
 
 /// The block of a seqno, which writes each sixteenth leaf of its chain's state.
@@ -29,62 +31,39 @@ impl Block {
     }
 }
 
-/// The state of a seqno, as the update of a block shows it. The leaves that the block writes stand there as the block
-/// of one seqno wrote them, and the others as in the state before the block.
-#[derive(Clone, Copy)]
-pub struct View {
-    pub block: Block,
-    pub seqno: u32,
-    pub writer: u32,
-    pub ghost written: { (j : ℕ) → is_written block.owner.number block.seqno j ≡ true
-        → writer_of block.owner.number seqno j ≡ writer },
-    pub ghost others: { (j : ℕ) → is_written block.owner.number block.seqno j ≡ false
-        → writer_of block.owner.number seqno j ≡ writer_of block.owner.number (block.seqno - 1) j },
-}
-
-impl View {
-    /// The state before a block.
-    pub fn before(block: &Block) -> View
-        ensures block { result.block ≡ block.now }
-        ensures seqno { result.seqno ≡ block.now.seqno - 1 }
-    {
-        View {
-            block: *block,
-            seqno: block.seqno - 1,
-            writer: block.seqno.saturating_sub(16),
-        }
-    }
-
-    /// The state of a block.
-    pub fn after(block: &Block) -> View
-        ensures block { result.block ≡ block.now }
-        ensures seqno { result.seqno ≡ block.now.seqno }
-    {
-        View {
-            block: *block,
-            seqno: block.seqno,
-            writer: block.seqno,
-        }
-    }
-}
-
 /// The contents of a pruned branch of mask 1 in the place of a cell that shows this.
 fn pruned_text(info: &ChildInfo) -> [u8; 36]
-    ensures { result ≡ 1 ∷ 1 ∷ hash_bytes info.now ++ depth_bytes info.now }
+    ensures text { result ≡ 1 ∷ 1 ∷ hash_bytes info.now ++ depth_bytes info.now }
+    ensures low { info_depth info.now 0 < 2 ^ 16 }
 {
+    let depth = info.depth_at(0);
     let mut bytes = [0; 36];
     bytes[0] = 1;
     bytes[1] = 1;
-    bytes[34..].copy_from_slice(&info.depths[0].to_be_bytes());
+    bytes[34..].copy_from_slice(&depth.to_be_bytes());
     bytes[2..34].copy_from_slice(&info.hashes[0].0);
     bytes
 }
 
 /// A pruned branch in the place of a cell that shows this.
 fn pruned(info: &ChildInfo) -> Face
-    ensures { result ≡ pruned_face info.now }
+    ensures face { result ≡ pruned_face info.now }
+    ensures shown { at_level_0 (info_of_face sha result) ≡ at_level_0 info.now }
 {
-    Face::new(true, bits_of(&pruned_text(info)), &[])
+    let text = pruned_text(info);
+    Face::new(true, bits_of(&text), &[])
+}
+
+/// What a cell of a state shows, by what a cell shows that an update has in its place: hash and depth at level 0, at each
+/// level.
+fn plain(info: &ChildInfo) -> ChildInfo
+    ensures { result ≡ at_level_0 info.now }
+{
+    ChildInfo {
+        mask: Mask::NONE,
+        hashes: [info.hash_at(0); 4],
+        depths: [info.depth_at(0); 4],
+    }
 }
 
 /// The contents of a Merkle update: the hashes of both halves, then their depths.
@@ -130,38 +109,42 @@ fn halves(infos: &[ChildInfo], levels: u32) -> (&[ChildInfo], &[ChildInfo])
     (&infos[..half], &infos[half..2 * half])
 }
 
-/// Lists what an update shows of a state, of so many levels over the leaves from the first on. `state` is what the cells
-/// there show in the state before the block.
-pub fn list_shown(
+/// Lists what the update by a block shows of the state before it, of so many levels over the leaves from the first on.
+/// `state` is what the cells there show in that state.
+pub fn list_before(
     cells: &mut Vec<Cell>,
     state: &[ChildInfo],
-    view: &View,
+    block: &Block,
     levels: u32,
     first: u16,
 ) -> Result<ChildInfo, Memory>
     requires levels { levels ≤ 9 }
     requires leaves { first + 2 ^ levels ≤ 512 }
-    requires state { state.now ≡ infos_of (full view.now.block.owner.number view.now.block.owner.chain
-        (view.now.block.seqno - 1) levels first) }
-    ensures { IfOk result (λ info. IsListed (shown view.now.block.owner.number view.now.block.owner.chain
-        view.now.block.seqno view.now.seqno levels first) cells.old.items cells.new.items info) }
+    requires state { state.now ≡ infos_of (full block.now.owner.number block.now.owner.chain
+        (block.now.seqno - 1) levels first) }
+    ensures { IfOk result (λ info. IsListed (shown block.now.owner.number block.now.owner.chain
+        block.now.seqno (block.now.seqno - 1) levels first) cells.old.items cells.new.items info) }
 {
-    if !view.block.writes_some(first, leaves_under(levels)) {
+    if !block.writes_some(first, leaves_under(levels)) {
         return list(cells, pruned(&root_of(state)));
     }
     if levels == 0 {
-        return list(cells, leaf(view.block.owner, first, view.writer));
+        return list(
+            cells,
+            leaf(block.owner, first, block.seqno.saturating_sub(16)),
+        );
     }
     let half = levels - 1;
     let (right, left) = halves(state, half);
-    let right = list_shown(cells, right, view, half, first + leaves_under(half))?;
-    let left = list_shown(cells, left, view, half, first)?;
+    let right = list_before(cells, right, block, half, first + leaves_under(half))?;
+    let left = list_before(cells, left, block, half, first)?;
     list(cells, inner(&left, &right))
 }
 
-/// Keeps what the cells of the state of a block show, of so many levels over the leaves from the first on. `state` is
-/// the same of the state before.
-pub fn keep_state(
+/// Lists what the update by a block shows of the block's own state, and keeps what the cells of that state show, of so many
+/// levels over the leaves from the first on. `state` is what the cells there show in the state before.
+pub fn list_after(
+    cells: &mut Vec<Cell>,
     infos: &mut Vec<ChildInfo>,
     state: &[ChildInfo],
     block: &Block,
@@ -172,19 +155,36 @@ pub fn keep_state(
     requires leaves { first + 2 ^ levels ≤ 512 }
     requires state { state.now ≡ infos_of (full block.now.owner.number block.now.owner.chain
         (block.now.seqno - 1) levels first) }
-    ensures { IfOk result (λ info. IsKept (full block.now.owner.number block.now.owner.chain
-        block.now.seqno levels first) infos.old.items infos.new.items info) }
+    ensures { IfOk result (λ info. IsListedAfter
+        (shown block.now.owner.number block.now.owner.chain block.now.seqno block.now.seqno levels first)
+        (full block.now.owner.number block.now.owner.chain block.now.seqno levels first)
+        cells.old.items cells.new.items infos.old.items infos.new.items info) }
 {
     if !block.writes_some(first, leaves_under(levels)) {
         infos.extend_from_slice(state)?;
-        return Ok(root_of(state));
+        return list(cells, pruned(&root_of(state)));
     }
     if levels == 0 {
-        return keep(infos, leaf(block.owner, first, block.seqno));
+        return list_kept(cells, infos, leaf(block.owner, first, block.seqno));
     }
     let half = levels - 1;
     let (right, left) = halves(state, half);
-    let right = keep_state(infos, right, block, half, first + leaves_under(half))?;
-    let left = keep_state(infos, left, block, half, first)?;
-    keep(infos, inner(&left, &right))
+    let right = list_after(cells, infos, right, block, half, first + leaves_under(half))?;
+    let left = list_after(cells, infos, left, block, half, first)?;
+    list_kept(cells, infos, inner(&left, &right))
+}
+
+/// Lists a cell, and keeps what the cell of the state shows in whose place it stands.
+fn list_kept(
+    cells: &mut Vec<Cell>,
+    infos: &mut Vec<ChildInfo>,
+    face: Face,
+) -> Result<ChildInfo, Memory>
+    ensures listed { OnOk result (faces cells.new.items ≡ faces cells.old.items ++ face ∷ []) }
+    ensures kept { IfOk result (λ info. infos.new.items ≡ infos.old.items ++ at_level_0 info ∷ []) }
+    ensures info { IfOk result (λ info. info ≡ info_of_face sha face) }
+{
+    let info = list(cells, face)?;
+    infos.push(plain(&info))?;
+    Ok(info)
 }

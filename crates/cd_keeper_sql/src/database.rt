@@ -1,3 +1,8 @@
+ghost use Rattle.std.specs.Prelude.{◌≡◌, Result};
+ghost use Rattle.sqlite.specs.Held.{state};
+ghost use Rattle.cd_keeper.specs.declared.fault.KeepFault.{KeepFault};
+ghost use Rattle.cd_keeper_sql.specs.OneStep.{IsInside};
+
 use crate::statements::{Statements, TableStatements, fault_of};
 use cd_keeper::{Batch, KeepFault};
 use sqlite::{Connection, Error, Row, Statement, Transaction, params};
@@ -8,6 +13,9 @@ pub type KeyAndValue = (Vec<u8>, Vec<u8>);
 
 /// What the keeper asks of its database. Each refusal for another cause than memory is `Failed`.
 pub trait Database: Drop {
+    /// What a batch did to a database: all of it in one step, or nothing, also where it is stopped in its middle.
+    ghost is_one_step: { Self → Self → Result (Unit {0}) KeepFault → Type 0 };
+
     /// The value under a key, if there is one.
     fn value(&mut self, get: &Statement, key: &[u8]) -> Result<Option<Vec<u8>>, KeepFault>;
 
@@ -22,10 +30,15 @@ pub trait Database: Drop {
     ) -> Result<Option<KeyAndValue>, KeepFault>;
 
     /// Makes all of a batch in one transaction, or nothing.
-    fn write(&mut self, statements: &Statements, batch: &Batch) -> Result<(), KeepFault>;
+    fn write(&mut self, statements: &Statements, batch: &Batch) -> Result<(), KeepFault>
+        ensures { is_one_step self.old self.new result };
 }
 
 impl<S: Alter + Drop> Database for Connection<S> {
+    ghost use Rattle.cd_keeper_sql.specs.OneStep.{IsOneStep};
+
+    ghost is_one_step = { λ old new result. IsOneStep (state S.Store old) (state S.Store new) result };
+
     fn value(&mut self, get: &Statement, key: &[u8]) -> Result<Option<Vec<u8>>, KeepFault> {
         match get.query_row(self, params![key]) {
             Ok(row) => match row.get(0) {
@@ -81,22 +94,51 @@ fn key_and_value(row: &Row) -> Result<KeyAndValue, Error> {
     Ok((key, value))
 }
 
+/// Runs the statements of a batch.
 fn fill<S: Alter>(
     transaction: &mut Transaction<'_, S>,
     statements: &Statements,
     batch: &Batch,
-) -> Result<(), KeepFault> {
-    for key in batch.drop_cells() {
-        drop_row(transaction, &statements.cells, &key.0)?;
+) -> Result<(), KeepFault>
+    ensures same { transaction.new.conn.ghost_name ≡ transaction.old.conn.ghost_name }
+    ensures inside { IsInside (state S.Store transaction.old.conn.now) (state S.Store transaction.new.conn.now) }
+{
+    fill_cells(transaction, &statements.cells, batch)?;
+    fill_descs(transaction, &statements.descs, batch)
+}
+
+#[tactic(auto, using(crate::proofs::Inside::inside_same, crate::proofs::Inside::inside_then))]
+fn fill_cells<S: Alter>(
+    transaction: &mut Transaction<'_, S>,
+    table: &TableStatements,
+    batch: &Batch,
+) -> Result<(), KeepFault>
+    ensures same { transaction.new.conn.ghost_name ≡ transaction.old.conn.ghost_name }
+    ensures inside { IsInside (state S.Store transaction.old.conn.now) (state S.Store transaction.new.conn.now) }
+{
+    'drops: for key in batch.drop_cells() {
+        drop_row(transaction, table, &key.0)?;
     }
-    for (key, record) in batch.put_cells() {
-        put_row(transaction, &statements.cells, &key.0, record.as_slice())?;
+    'puts: for (key, record) in batch.put_cells() {
+        put_row(transaction, table, &key.0, record.as_slice())?;
     }
-    for key in batch.drop_descs() {
-        drop_row(transaction, &statements.descs, key)?;
+    Ok(())
+}
+
+#[tactic(auto, using(crate::proofs::Inside::inside_same, crate::proofs::Inside::inside_then))]
+fn fill_descs<S: Alter>(
+    transaction: &mut Transaction<'_, S>,
+    table: &TableStatements,
+    batch: &Batch,
+) -> Result<(), KeepFault>
+    ensures same { transaction.new.conn.ghost_name ≡ transaction.old.conn.ghost_name }
+    ensures inside { IsInside (state S.Store transaction.old.conn.now) (state S.Store transaction.new.conn.now) }
+{
+    'drops: for key in batch.drop_descs() {
+        drop_row(transaction, table, key)?;
     }
-    for (key, value) in batch.put_descs() {
-        put_row(transaction, &statements.descs, key, value.as_slice())?;
+    'puts: for (key, value) in batch.put_descs() {
+        put_row(transaction, table, key, value.as_slice())?;
     }
     Ok(())
 }
@@ -107,7 +149,10 @@ fn put_row<S: Alter>(
     table: &TableStatements,
     key: &[u8],
     value: &[u8],
-) -> Result<(), KeepFault> {
+) -> Result<(), KeepFault>
+    ensures same { transaction.new.conn.ghost_name ≡ transaction.old.conn.ghost_name }
+    ensures inside { IsInside (state S.Store transaction.old.conn.now) (state S.Store transaction.new.conn.now) }
+{
     if run(transaction, &table.writing.update, key, value)? == 0 {
         run(transaction, &table.writing.insert, key, value)?;
     }
@@ -120,7 +165,10 @@ fn run<S: Alter>(
     statement: &Statement,
     key: &[u8],
     value: &[u8],
-) -> Result<usize, KeepFault> {
+) -> Result<usize, KeepFault>
+    ensures same { transaction.new.conn.ghost_name ≡ transaction.old.conn.ghost_name }
+    ensures inside { IsInside (state S.Store transaction.old.conn.now) (state S.Store transaction.new.conn.now) }
+{
     match transaction.execute_prepared(statement, params![key, value]) {
         Ok(count) => Ok(count),
         Err(error) => Err(fault_of(error)),
@@ -131,7 +179,10 @@ fn drop_row<S: Alter>(
     transaction: &mut Transaction<'_, S>,
     table: &TableStatements,
     key: &[u8],
-) -> Result<(), KeepFault> {
+) -> Result<(), KeepFault>
+    ensures same { transaction.new.conn.ghost_name ≡ transaction.old.conn.ghost_name }
+    ensures inside { IsInside (state S.Store transaction.old.conn.now) (state S.Store transaction.new.conn.now) }
+{
     match transaction.execute_prepared(&table.writing.drop_row, params![key]) {
         Ok(_) => Ok(()),
         Err(error) => Err(fault_of(error)),

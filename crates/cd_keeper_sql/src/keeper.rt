@@ -1,8 +1,9 @@
-ghost use Rattle.std.specs.Prelude.{◌≡◌, IsTrue, IfOk, IfSome};
+ghost use Rattle.std.specs.Prelude.{◌≡◌, IsTrue, IfOk, IfSome, None, OnOk, OnErr};
 ghost use Rattle.std.specs.Option.{option_map};
 ghost use Rattle.cd_keeper.specs.Contents.{is_above};
+ghost use Rattle.cd_keeper.specs.Keeping.{HasKeepCause, IsApplied, KeepsHeld};
 ghost use Rattle.cd_keeper.specs.Shown.{hash_bytes};
-ghost use Rattle.cd_keeper_sql.specs.Counting.{count_after};
+ghost use Rattle.cd_keeper_sql.specs.Counting.{count_after, IsUncounted};
 
 use crate::database::{Database, KeyAndValue};
 use crate::keys::{desc_key_above, hash_above};
@@ -26,7 +27,9 @@ pub struct SqlKeeperOver<C: Database> {
 impl<S: Alter + Drop> SqlKeeperOver<Connection<S>> {
     /// A keeper over an open database. Both tables are made where they aren't there. `Failed` where the database
     /// refuses that: a table of these names with other columns, say.
-    pub fn over(database: Connection<S>) -> Result<SqlKeeperOver<Connection<S>>, KeepFault> {
+    pub fn over(database: Connection<S>) -> Result<SqlKeeperOver<Connection<S>>, KeepFault>
+        ensures new { IfOk result (λ keeper. IsUncounted keeper.batches keeper.faults keeper.reads) }
+    {
         let mut database = database;
         match Statements::prepare(&mut database) {
             Ok(statements) => Ok(SqlKeeperOver::new(database, statements)),
@@ -38,7 +41,7 @@ impl<S: Alter + Drop> SqlKeeperOver<Connection<S>> {
 impl<C: Database> SqlKeeperOver<C> {
     /// A keeper over a database and the statements that were prepared for it.
     pub fn new(database: C, statements: Statements) -> SqlKeeperOver<C>
-        ensures { (result.batches ≡ 0) × (result.faults ≡ 0) × (result.reads ≡ 0) }
+        ensures { IsUncounted result.batches result.faults result.reads }
     {
         SqlKeeperOver {
             database,
@@ -154,7 +157,16 @@ impl<C: Database> Keeper for SqlKeeperOver<C> {
         found
     }
 
-    fn apply(&mut self, batch: &Batch) -> Result<(), KeepFault> {
+    fn apply(&mut self, batch: &Batch) -> Result<(), KeepFault>
+        // The whole batch is one step of the database, also where it is stopped in its middle.
+        ensures whole { C.is_one_step self.old.database self.new.database result }
+        ensures done { OnOk result (IsApplied (λ _. None) (λ _. None) (λ keeper. keeper.batches)
+            batch.now self.old self.new) }
+        ensures undone { OnErr result (KeepsHeld (λ _. None) (λ _. None) (λ keeper. keeper.batches)
+            self.old self.new) }
+        ensures reads { self.new.reads ≡ self.old.reads }
+        ensures cause { HasKeepCause self.old.faults self.new.faults result }
+    {
         let done = self.database.write(&self.statements, batch);
         count_fault(&mut self.faults, &done);
         if done.is_ok() {

@@ -1,3 +1,6 @@
+ghost use Rattle.std.specs.Prelude.{◌≡◌};
+ghost use Rattle.cd_keeper_sql.specs.Counting as counting;
+
 use cd_keeper::KeepFault;
 use sqlite::{Connection, Error, ErrorCode, Statement};
 use sqlite_trees::store::Alter;
@@ -65,7 +68,9 @@ pub struct Statements {
 }
 
 /// Want of memory is told apart; each other refusal of the database is a fault.
-pub(crate) fn fault_of(error: Error) -> KeepFault {
+pub(crate) fn fault_of(error: Error) -> KeepFault
+    ensures { result ≡ counting.fault_of error }
+{
     match error {
         Error::SqliteFailure(ErrorCode::OutOfMemory) => KeepFault::Memory,
         _ => KeepFault::Failed,

@@ -1,5 +1,5 @@
 -- Inner: what the task of a block over two parents does by its pins, stage by stage.
-use Rattle.std.specs.Prelude.{◌≡◌, ◌⊎◌, ℕ, Bool, false, ◌==◌, List, [], ◌∷◌, slice_get, Option, Some, Result, Ok, Err}
+use Rattle.std.specs.Prelude.{◌≡◌, ◌⊎◌, ℕ, Bool, false, ◌==◌, List, [], ◌∷◌, slice_get, Option, Some, None, Result, Ok, Err}
 use Rattle.cd_base.specs.declared.hash.Hash256.{Hash256}
 use Rattle.cd_base.specs.declared.answers.Memory.{Memory}
 use Rattle.cd_block.specs.declared.block.BlockId.{BlockId}
@@ -23,32 +23,44 @@ use Rattle.cd_run.specs.Merging.{named_as, IsPinned}
 -- ---- pins
 
 -- two pins, with what their worker was told of them
-pub record ArePinned {H : Type 0} (digest : List ℕ → Hash256) (made : List (Entry H)) (named : List Named)
-    (parents : Parents) (a b : Option Tree) : Type 0 where
+pub record ArePinned {H : Type 0} (digest : List ℕ → Hash256)
+    (made : List (Entry H)) (named : List Named) (parents : Parents) (a b : Option Tree) : Type 0 where
   pub left : IsPinned digest made named parents.left a
   pub right : IsPinned digest made named parents.right b
   pub apart : (parents.left.pin == parents.right.pin) ≡ false
 
 module _ {S H : Type 0} (digest : List ℕ → Hash256) (worker faults : S → ℕ) (made : S → List (Entry H))
-    (goes : S → S → Type 0) (named : S → List Named) (who : Who) (left right : BlockId) (old new : S) where
+    (goes : S → S → Type 0) (named : S → List Named)
+    (who : Who) (left right : BlockId) (old new : S) where
   pub record BothPins (parents : Parents) : Type 0 where
     pub a : Option Tree
     pub b : Option Tree
     pub are_pinned : ArePinned digest (made new) (named new) parents a b
-    pub stage : Stage worker faults made goes named (named_as parents.left a ∷ (named_as parents.right b ∷ []))
-        (λ es. es ≡ pinned_as who left parents.left.pin ∷ (pinned_as who right parents.right.pin ∷ [])) old new
+    pub stage : Stage worker faults made goes named
+        (named_as parents.left a ∷ (named_as parents.right b ∷ []))
+        (λ es. es ≡ pinned_as who left parents.left.pin ∷ (pinned_as who right parents.right.pin ∷ []))
+        old new
 
   -- both pins; or what a task did that has an update and didn't get them
   abbrev pub PinsBoth : Result Parents Stop → Type 0
   PinsBoth (Ok parents) = BothPins parents
-  PinsBoth (Err why) = (id : BlockId) (tops : List BlockId) (bag : List ℕ) (u : Tree) → HasUpdate digest bag u
-      → Did digest worker faults made goes named who (task.Merged id left right tops bag) old new (stop_end why)
+  PinsBoth (Err why) =
+      (id : BlockId) (tops : List BlockId) (bag : List ℕ) (u : Tree) → HasUpdate digest bag u
+      → Did digest worker faults made goes named who (task.Merged id left right tops bag)
+      old new (stop_end why)
 
 -- ---- faces
 
 -- each face that was found stays
 abbrev pub KeepsFaces : List (Option FaceView) → List (Option FaceView) → Type 0
-KeepsFaces before now = (k : ℕ) (face : FaceView) → slice_get before k ≡ Some (Some face) → slice_get now k ≡ Some (Some face)
+KeepsFaces before now =
+    (k : ℕ) (face : FaceView) → slice_get before k ≡ Some (Some face) → slice_get now k ≡ Some (Some face)
+
+-- where nothing was found stands what was found elsewhere
+abbrev pub FillsFaces : List (Option FaceView) → List (Option FaceView) → List (Option FaceView) → Type 0
+FillsFaces before others now =
+    (k : ℕ) (found : Option FaceView) → slice_get before k ≡ Some None → slice_get others k ≡ Some found
+    → slice_get now k ≡ Some found
 
 -- ---- entries under both pins
 
@@ -57,7 +69,8 @@ module _ {H : Type 0} (who : Who) (parents : Parents) where
   abbrev pub UnpinsBoth : {A : Type 0} → Result A Memory → List (Entry H) → Type 0
   UnpinsBoth (Ok done) es = (first : Option Bool) × ((second : Option Bool)
       × (es ≡ unpinned_as who parents.left.pin first ∷ (unpinned_as who parents.right.pin second ∷ [])))
-  UnpinsBoth (Err memory) es = (es ≡ []) ⊎ ((first : Option Bool) × (es ≡ unpinned_as who parents.left.pin first ∷ []))
+  UnpinsBoth (Err memory) es =
+      (es ≡ []) ⊎ ((first : Option Bool) × (es ≡ unpinned_as who parents.left.pin first ∷ []))
 
 module _ {H : Type 0} (digest : List ℕ → Hash256) (who : Who) (m n : Named) (u : Tree) where
   -- answered looks, under the left pin and then under the right one
@@ -67,7 +80,8 @@ module _ {H : Type 0} (digest : List ℕ → Hash256) (who : Who) (m n : Named) 
   -- looks, and a prepared value, or why there is none
   abbrev pub PreparesBoth : Result PreparedView Stop → List (Entry H) → Type 0
   PreparesBoth (Ok p) es = OnlyBoth es × IsMergePrepared digest m n u p
-  PreparesBoth (Err (stop.Refused why)) es = (id : BlockId) (tops : List BlockId) → UnjoinedRun digest who m n u id tops es why
+  PreparesBoth (Err (stop.Refused why)) es =
+      (id : BlockId) (tops : List BlockId) → UnjoinedRun digest who m n u id tops es why
   PreparesBoth (Err stop.Memory) es = OnlyBoth es
 
   -- and the merge

@@ -30,8 +30,8 @@ abbrev pub named_as : Pinned → Option Tree → Named
 named_as pinned tree = record { number = pinned.pin; root = pinned.root; tree = tree }
 
 -- it is live, and has what its worker was told of it
-pub record IsPinned {H : Type 0} (digest : List ℕ → Hash256) (made : List (Entry H)) (named : List Named)
-    (pinned : Pinned) (tree : Option Tree) : Type 0 where
+pub record IsPinned {H : Type 0} (digest : List ℕ → Hash256)
+    (made : List (Entry H)) (named : List Named) (pinned : Pinned) (tree : Option Tree) : Type 0 where
   pub live : is_live pinned.pin made ≡ true
   pub found : find_pin named pinned.pin ≡ Some (named_as pinned tree)
   pub plain : IsPlain pinned.root
@@ -86,7 +86,8 @@ module _ {H : Type 0} (digest : List ℕ → Hash256) (who : Who) (m : Named) (u
   -- looks, and a prepared value, or why there is none
   abbrev pub PreparesBy : Result PreparedView Stop → List (Entry H) → Type 0
   PreparesBy (Ok p) es = OnlyLooks who m.number es × IsPrepared digest m u p
-  PreparesBy (Err (stop.Refused why)) es = (id : BlockId) (tops : List BlockId) → UnmergedRun digest who m u id tops es why
+  PreparesBy (Err (stop.Refused why)) es =
+      (id : BlockId) (tops : List BlockId) → UnmergedRun digest who m u id tops es why
   PreparesBy (Err stop.Memory) es = OnlyLooks who m.number es
 
   -- and the merge

@@ -38,8 +38,8 @@ fn look_some<T: Turns>(
     }
 }
 
-/// What is found under these hashes, by as many looks under a live pin as it takes: where they are told, the faces of the
-/// cells of every live pin's state.
+/// What is found under these hashes, by as many looks under a live pin as it takes: where it is told, the face of
+/// each cell of every live pin's state.
 pub(crate) fn gather<T: Turns>(
     alloc: Global,
     turns: &mut T,

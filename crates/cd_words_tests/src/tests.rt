@@ -5,151 +5,109 @@ use std::test::Fail;
 
 const USAGE: &str = "the words are not a command with its options";
 
-/// Words with a `|` between them, and the fault that they are refused with; none for words that are taken.
-const LINES: [(&str, &str); 68] = [
-    ("Zero", USAGE),
-    ("zero|zero", USAGE),
-    (
-        "zero|--workchain|x",
-        "the value of --workchain is none that it may have",
-    ),
-    (
-        "zero|--workchain|01",
-        "the value of --workchain is none that it may have",
-    ),
-    (
-        "zero|--workchain|2147483648",
-        "the value of --workchain is none that it may have",
-    ),
-    ("zero|--workchain|2147483647", ""),
-    ("zero|--workchain=0", ""),
-    (
-        "zero|--workchain=00",
-        "the value of --workchain is none that it may have",
-    ),
-    ("zero|--workchain|-1", USAGE),
-    (
-        "zero|--workchain=-1",
-        "the value of --workchain is none that it may have",
-    ),
-    ("zero|--workchain", USAGE),
-    (
-        "zero|--workchain=+1",
-        "the value of --workchain is none that it may have",
-    ),
-    ("zero|--workchain=1|--workchain=1", USAGE),
-    ("zero|--", USAGE),
-    ("zero|--|--file", USAGE),
+/// The id of a block, for which an `@` stands in a line.
+const ID: &str =
+    "(-1,8000000000000000,0):aaaaaaaaaaaaaaaaaaaaaaaaaaaaaaaaaaaaaaaaaaaaaaaaaaaaaaaaaaaaaaaa:0000000000000000000000000000000000000000000000000000000000000000";
+
+/// Lines that are taken, with a `|` between their words.
+const TAKEN: [&str; 15] = [
+    "zero|--workchain|2147483647",
+    "zero|--workchain=0",
+    "zero|--file|ABABABABABABABABABABABABABABABABABABABABABABABABABABABABABABABAB",
+    "zero|--file=aBaBaBaBaBaBaBaBaBaBaBaBaBaBaBaBaBaBaBaBaBaBaBaBaBaBaBaBaBaBaBaB|--workchain|7",
+    "replay|--to=a",
+    "replay|--db|x|--to|-|--to=|--to|--db",
+    "run|--to|--|--to|b",
+    "check",
+    "check|--db=",
+    "check|--db|",
+    "check|--db|-",
+    "migrate|--db=a=b",
+    "export|--id|@",
+    "export|--id=@|--max|2097152|--to|b|--db|c",
+    "gen|--number|18446744073709551615",
+];
+
+/// Lines that aren't those of a command with its options.
+const UNKNOWN: [&str; 34] = [
+    "Zero",
+    "zero|zero",
+    "zero|--workchain|-1",
+    "zero|--workchain",
+    "zero|--workchain=1|--workchain=1",
+    "zero|--",
+    "zero|--|--file",
+    "zero|--to|x",
+    "zero|--max|1",
+    "zero|--unknown",
+    "zero|-x",
+    "zero|",
+    "replay|--workchain|1",
+    "replay|x",
+    "replay|--to",
+    "replay|--number|1",
+    "replay|--to|a|b",
+    "replay|--|--to|x",
+    "--workchain|1|zero",
+    "--to|a|replay",
+    "check|--db|-x",
+    "check|--db|x|--db=x",
+    "migrate|--to=x",
+    "export",
+    "export|--max=1",
+    "export|--id=x|--to",
+    "gen",
+    "zero|--=x",
+    "zero|---workchain=1",
+    "zero|-workchain=1",
+    "zero|--Workchain=1",
+    "zero|--work=1",
+    "zero|--help",
+    "--help",
+];
+
+/// Lines with a value that its option may not have, and the option.
+const WRONG: [(&str, &str); 19] = [
+    ("zero|--workchain|x", "workchain"),
+    ("zero|--workchain|01", "workchain"),
+    ("zero|--workchain|2147483648", "workchain"),
+    ("zero|--workchain=00", "workchain"),
+    ("zero|--workchain=-1", "workchain"),
+    ("zero|--workchain=+1", "workchain"),
     (
         "zero|--file|000000000000000000000000000000000000000000000000000000000000000",
-        "the value of --file is none that it may have",
+        "file",
     ),
     (
         "zero|--file|00000000000000000000000000000000000000000000000000000000000000000",
-        "the value of --file is none that it may have",
-    ),
-    (
-        "zero|--file|ABABABABABABABABABABABABABABABABABABABABABABABABABABABABABABABAB",
-        "",
-    ),
-    (
-        "zero|--file=aBaBaBaBaBaBaBaBaBaBaBaBaBaBaBaBaBaBaBaBaBaBaBaBaBaBaBaBaBaBaBaB|--workchain|7",
-        "",
+        "file",
     ),
     (
         "zero|--file|gggggggggggggggggggggggggggggggggggggggggggggggggggggggggggggggg",
-        "the value of --file is none that it may have",
+        "file",
     ),
-    (
-        "zero|--file=",
-        "the value of --file is none that it may have",
-    ),
-    ("zero|--to|x", USAGE),
-    ("zero|--max|1", USAGE),
-    ("zero|--unknown", USAGE),
-    ("zero|-x", USAGE),
-    ("zero|", USAGE),
-    ("replay|--workchain|1", USAGE),
-    ("replay|x", USAGE),
-    ("replay|--to", USAGE),
-    ("replay|--number|1", USAGE),
-    ("replay|--to|a|b", USAGE),
-    ("replay|--to=a", ""),
-    ("replay|--|--to|x", USAGE),
-    ("--workchain|1|zero", USAGE),
-    ("--to|a|replay", USAGE),
-    ("replay|--db|x|--to|-|--to=|--to|--db", ""),
-    ("run|--to|--|--to|b", ""),
-    ("check", ""),
-    ("check|--db=", ""),
-    ("check|--db|", ""),
-    ("check|--db|-", ""),
-    ("check|--db|-x", USAGE),
-    ("check|--db|x|--db=x", USAGE),
-    ("migrate|--db=a=b", ""),
-    ("migrate|--to=x", USAGE),
-    ("export", USAGE),
-    ("export|--max=1", USAGE),
-    (
-        "export|--id|(-1,8000000000000000,0):aaaaaaaaaaaaaaaaaaaaaaaaaaaaaaaaaaaaaaaaaaaaaaaaaaaaaaaaaaaaaaaa:0000000000000000000000000000000000000000000000000000000000000000",
-        "",
-    ),
-    (
-        "export|--id=(-1,8000000000000000,0):aaaaaaaaaaaaaaaaaaaaaaaaaaaaaaaaaaaaaaaaaaaaaaaaaaaaaaaaaaaaaaaa:0000000000000000000000000000000000000000000000000000000000000000|--max|2097152|--to|b|--db|c",
-        "",
-    ),
+    ("zero|--file=", "file"),
     (
         "export|--id|(-1,8000000000000000,0):AAAAAAAAAAAAAAAAAAAAAAAAAAAAAAAAAAAAAAAAAAAAAAAAAAAAAAAAAAAAAAAA:0000000000000000000000000000000000000000000000000000000000000000",
-        "the value of --id is none that it may have",
+        "id",
     ),
-    (
-        "export|--id=(-1,8000000000000000,0):aaaaaaaaaaaaaaaaaaaaaaaaaaaaaaaaaaaaaaaaaaaaaaaaaaaaaaaaaaaaaaaa:0000000000000000000000000000000000000000000000000000000000000000|--max=0",
-        "the value of --max is none that it may have",
-    ),
-    (
-        "export|--max=2097153|--id=x",
-        "the value of --max is none that it may have",
-    ),
-    (
-        "export|--id=x|--max=2097153",
-        "the value of --id is none that it may have",
-    ),
-    ("export|--id=x|--to", USAGE),
-    ("gen", USAGE),
-    ("gen|--number|18446744073709551615", ""),
-    (
-        "gen|--number=18446744073709551616",
-        "the value of --number is none that it may have",
-    ),
-    (
-        "gen|--number|00",
-        "the value of --number is none that it may have",
-    ),
-    (
-        "zero|--file=|--workchain=x",
-        "the value of --file is none that it may have",
-    ),
-    (
-        "zero|--workchain=|--file=x",
-        "the value of --workchain is none that it may have",
-    ),
-    ("zero|--=x", USAGE),
-    (
-        "zero|--workchain==1",
-        "the value of --workchain is none that it may have",
-    ),
-    ("zero|---workchain=1", USAGE),
-    ("zero|-workchain=1", USAGE),
-    ("zero|--Workchain=1", USAGE),
-    ("zero|--work=1", USAGE),
-    ("zero|--help", USAGE),
-    ("--help", USAGE),
+    ("export|--id=@|--max=0", "max"),
+    ("export|--max=2097153|--id=x", "max"),
+    ("export|--id=x|--max=2097153", "id"),
+    ("gen|--number=18446744073709551616", "number"),
+    ("gen|--number|00", "number"),
+    ("zero|--file=|--workchain=x", "file"),
+    ("zero|--workchain=|--file=x", "workchain"),
+    ("zero|--workchain==1", "workchain"),
 ];
 
 fn words(alloc: Global, line: &str) -> Result<Vec<String>, AllocError> {
     let mut words = Vec::new(alloc);
     for word in line.split('|') {
-        words.push(String::from_str(alloc, word)?)?;
+        match word.split_once('@') {
+            Some((front, _)) => words.push(format!(in alloc; "{front}{ID}")?)?,
+            None => words.push(String::from_str(alloc, word)?)?,
+        }
     }
     Ok(words)
 }
@@ -163,17 +121,42 @@ fn fault_of(alloc: Global, words: &[String]) -> Result<String, Fail> {
 }
 
 #[test]
-fn lines_are_taken_or_refused(rt: HostRuntime) -> Result<(), Fail> {
+fn lines_are_taken(rt: HostRuntime) -> Result<(), Fail> {
     let alloc = rt.alloc();
-    for (line, due) in LINES {
+    for line in TAKEN {
         let words = words(alloc, line)?;
         let fault = fault_of(alloc, &words)?;
-        assert!(rt; fault.as_str() == due, "{line}: {fault}");
-        assert!(rt; client_words(alloc, &words).is_ok() == due.is_empty());
+        assert!(rt; fault.is_empty(), "{line}: {fault}");
+        assert!(rt; client_words(alloc, &words).is_ok());
+    }
+    Ok(())
+}
+
+#[test]
+fn lines_are_no_command(rt: HostRuntime) -> Result<(), Fail> {
+    let alloc = rt.alloc();
+    for line in UNKNOWN {
+        let words = words(alloc, line)?;
+        let fault = fault_of(alloc, &words)?;
+        assert!(rt; fault.as_str() == USAGE, "{line}: {fault}");
+        assert!(rt; client_words(alloc, &words).is_err());
     }
     let none = Vec::new(alloc);
     assert!(rt; read_words(alloc, &none) == Err(WordFault::Usage));
     assert!(rt; !is_run(&none));
+    Ok(())
+}
+
+#[test]
+fn values_are_refused(rt: HostRuntime) -> Result<(), Fail> {
+    let alloc = rt.alloc();
+    for (line, option) in WRONG {
+        let words = words(alloc, line)?;
+        let fault = fault_of(alloc, &words)?;
+        let due = format!(in alloc; "the value of --{option} is none that it may have")?;
+        assert!(rt; fault.as_str() == due.as_str(), "{line}: {fault}");
+        assert!(rt; client_words(alloc, &words).is_err());
+    }
     Ok(())
 }
 
@@ -186,7 +169,7 @@ fn what_is_not_given_stands_as_said(rt: HostRuntime) -> Result<(), Fail> {
         db: None,
     };
     assert!(rt; read_words(alloc, &words(alloc, "zero")?) == Ok(zero));
-    let found = read_words(alloc, &words(alloc, EXPORT)?);
+    let found = read_words(alloc, &words(alloc, "export|--id|@")?);
     assert!(rt;
         matches!(
             found,
@@ -199,9 +182,6 @@ fn what_is_not_given_stands_as_said(rt: HostRuntime) -> Result<(), Fail> {
     );
     Ok(())
 }
-
-const EXPORT: &str =
-    "export|--id|(-1,8000000000000000,0):aaaaaaaaaaaaaaaaaaaaaaaaaaaaaaaaaaaaaaaaaaaaaaaaaaaaaaaaaaaaaaaa:0000000000000000000000000000000000000000000000000000000000000000";
 
 #[test]
 fn values_are_taken(rt: HostRuntime) -> Result<(), Fail> {

@@ -1,6 +1,5 @@
--- Trusted: what is said of bytes, and of the bytes of a line.
-use Rattle.std.specs.Prelude.{◌≡◌, ℕ, List, [], ◌∷◌, length, map, Some, Ok}
-use Rattle.hex.specs.Hex.{decode_of}
+-- Trusted: what is said of bytes.
+use Rattle.std.specs.Prelude.{◌≡◌, ℕ, List, [], ◌∷◌, length, map, Some}
 use Rattle.cd_base.specs.declared.hash.Hash256.{Hash256}
 use Rattle.cd_cell.specs.declared.info.ChildInfo.{ChildInfo}
 use Rattle.cd_cell.specs.Tree.{Tree, info_of}
@@ -23,10 +22,6 @@ module _ (H : List ℕ → Hash256) where
   abbrev pub IsTrueOf : List ℕ → Verdict → Type 0
   IsTrueOf bytes (Good roots cells) = IsBagOf bytes roots cells
   IsTrueOf bytes (Refused fault) = bag_fault H bytes ≡ Some fault
-
-  -- the same of the bytes that a line has in hexadecimal
-  abbrev pub IsTrueOfLine : List ℕ → Verdict → Type 0
-  IsTrueOfLine line verdict = (bytes : List ℕ) × (decode_of line ≡ Ok bytes) × IsTrueOf bytes verdict
 
   -- the bytes are a bag of one tree, and this is its export text
   abbrev pub IsExport : List ℕ → List ℕ → Type 0

@@ -1,7 +1,9 @@
-ghost use Rattle.std.specs.Prelude.{◌≡◌, map, IfOk, IfErr};
+ghost use Rattle.std.specs.Prelude.{◌≡◌, Some, map, IfOk, IfErr};
+ghost use Rattle.std.specs.Fmt.{DisplaysOnOk};
 ghost use Rattle.cd_cell.specs.Bags.{bag_trees};
 ghost use Rattle.cd_cell.specs.Tree.{info_of};
 ghost use Rattle.inspect_bags.specs.Verdicts.{IsTrueOf, AreRootsOf};
+ghost use Rattle.inspect_bags.specs.Texts.{hashes_text, depths_text};
 
 use crate::verdict::Verdict;
 use cd_boc_read::{BagFault, read_bag};
@@ -40,17 +42,41 @@ pub fn levels_of<H: Hash32>(
 #[derive(Clone, Copy)]
 pub struct Levels(pub ChildInfo);
 
+/// Prints the hashes at all levels.
+#[tactic(auto, unfolding(crate::specs::Texts::hashes_text))]
+fn print_hashes<W: fmt::Write>(info: &ChildInfo, f: &mut fmt::Formatter<W>) -> fmt::Result
+    ensures { DisplaysOnOk W.write_str_gives f.old result (Some (hashes_text info.now)) f.new }
+{
+    let first = info.hash_at(0);
+    let second = info.hash_at(1);
+    let third = info.hash_at(2);
+    let last = info.hash_at(3);
+    write!(f, " {first} {second} {third} {last}")
+}
+
+/// Prints the depths at all levels.
+#[tactic(auto, unfolding(crate::specs::Texts::depths_text))]
+fn print_depths<W: fmt::Write>(info: &ChildInfo, f: &mut fmt::Formatter<W>) -> fmt::Result
+    ensures { DisplaysOnOk W.write_str_gives f.old result (Some (depths_text info.now)) f.new }
+{
+    let first = info.depth_at(0);
+    let second = info.depth_at(1);
+    let third = info.depth_at(2);
+    let last = info.depth_at(3);
+    write!(f, " {first} {second} {third} {last}")
+}
+
 impl fmt::Display for Levels {
+    ghost use Rattle.std.specs.Prelude.{Some};
+    ghost use Rattle.inspect_bags.specs.Texts.{levels_text};
+
+    ghost output = { λ shown. Some (levels_text shown.0) };
+
     fn fmt<W: fmt::Write>(&self, f: &mut fmt::Formatter<W>) -> fmt::Result {
-        let info = self.0;
-        write!(f, "mask {} hashes", info.mask.byte())?;
-        for hash in info.hashes {
-            write!(f, " {hash}")?;
-        }
+        let mask = self.0.mask.byte();
+        write!(f, "mask {mask} hashes")?;
+        print_hashes(&self.0, f)?;
         f.write_str(" depths")?;
-        for depth in info.depths {
-            write!(f, " {depth}")?;
-        }
-        Ok(())
+        print_depths(&self.0, f)
     }
 }

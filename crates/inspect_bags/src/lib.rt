@@ -8,4 +8,4 @@ mod verdict;
 
 pub use levels::{Levels, levels_of};
 pub use texts::{export_text, levels_text, lines_text, raw_levels_text, raw_text};
-pub use verdict::{Verdict, export_of, verdict_of, verdict_of_line};
+pub use verdict::{Verdict, export_of, verdict_of};

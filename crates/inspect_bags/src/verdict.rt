@@ -1,11 +1,9 @@
-ghost use Rattle.std.specs.Prelude.{◌≡◌, ℕ, List, IfOk, IfErr, IfSome, IfNone, IsErr, Ok};
-ghost use Rattle.hex.specs.Hex.{decode_of};
-ghost use Rattle.inspect_bags.specs.Verdicts.{IsTrueOf, IsTrueOfLine, IsExport};
+ghost use Rattle.std.specs.Prelude.{IfOk, IfErr};
+ghost use Rattle.inspect_bags.specs.Verdicts.{IsTrueOf, IsExport};
 
 use crate::export::export;
 use cd_boc_read::{BagFault, read_bag};
 use cd_cell::Hash32;
-use inspect_lines::bytes_of_line;
 use std::alloc::{AllocError, Global};
 use std::fmt;
 
@@ -32,17 +30,6 @@ pub fn verdict_of<H: Hash32>(alloc: Global, bytes: &[u8]) -> Result<Verdict, All
     }
 }
 
-/// What is said of the bytes that a line has in hexadecimal, unless memory runs out; `None` where it is no hexadecimal.
-pub fn verdict_of_line<H: Hash32>(alloc: Global, line: &[u8]) -> Result<Option<Verdict>, AllocError>
-    ensures said { IfOk result (λ said. IfSome said (IsTrueOfLine H.digest_of line.now)) }
-    ensures not_hexadecimal { IfOk result (λ said. IfNone said (IsErr (decode_of line.now))) }
-{
-    match bytes_of_line(alloc, line)? {
-        Some(bytes) => Ok(Some(verdict_of::<H>(alloc, &bytes)?)),
-        None => Ok(None),
-    }
-}
-
 /// The export text of the one root of a bag; where the bytes are no bag, or one of several roots, what is said of
 /// them. All of that unless memory runs out.
 pub fn export_of<H: Hash32>(
@@ -66,6 +53,10 @@ pub fn export_of<H: Hash32>(
 }
 
 impl fmt::Display for Verdict {
+    ghost use Rattle.inspect_bags.specs.Texts.{verdict_text};
+
+    ghost output = { verdict_text };
+
     fn fmt<W: fmt::Write>(&self, f: &mut fmt::Formatter<W>) -> fmt::Result {
         match self {
             Verdict::Good { roots, cells } => write!(f, "ok roots {roots} cells {cells}"),

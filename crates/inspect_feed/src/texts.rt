@@ -1,87 +1,72 @@
+ghost use Rattle.std.specs.Prelude.{◌≡◌, ◌+◌, ◌++◌, length, codes, OnOk, IfOk, string_bytes};
+ghost use Rattle.std.specs.Fmt.{decimal};
+ghost use Rattle.cd_block.specs.Spelling.{id_text};
+ghost use Rattle.inspect_feed.specs.FeedTexts.{said_text, task_line, worker_lines, phase_lines};
+ghost use Rattle.inspect_feed.specs.FeedTexts.{phase_tasks, feed_tasks, feed_lines, TellsFeed};
+
 use crate::reading::feed_of;
-use cd_block::{BlockId, print_id};
-use cd_feed::{Feed, Phase, Task};
+use cd_block::{BlockId, BlockIds, print_id};
+use cd_feed::{Bytes, Feed, Phase, Task};
 use inspect_lines::push_line;
 use std::alloc::{AllocError, Global};
+use std::fmt::Write;
 
-/// A task by its name: the numbers of its phase, its worker and itself, from 0.
-#[derive(Clone, Copy)]
-struct Named<'a> {
-    phase: usize,
-    worker: usize,
-    number: usize,
-    task: &'a Task,
+/// A text with a name and an id behind it.
+fn with_id(alloc: Global, mut text: String, name: &str, id: &BlockId) -> Result<String, AllocError>
+    ensures { IfOk result (λ longer. string_bytes longer ≡ string_bytes text ++ name.now ++ id_text id.now) }
+{
+    let Ok(spelt) = print_id(alloc, id) else {
+        return Err(AllocError);
+    };
+    text.push_str(name)?;
+    text.push_str(&spelt)?;
+    Ok(text)
 }
 
-/// The tasks of a phase, behind those that are named already.
-fn push_phase<'a>(
-    all: &mut Vec<Named<'a>>,
-    number: usize,
-    phase: &'a Phase,
-) -> Result<(), AllocError> {
-    for (worker, tasks) in phase.workers.as_slice().iter().enumerate() {
-        for (place, task) in tasks.as_slice().iter().enumerate() {
-            all.push(Named {
-                phase: number,
-                worker,
-                number: place,
-                task,
-            })?;
-        }
-    }
-    Ok(())
+/// A text with a name and a number behind it.
+fn with_number(mut text: String, name: &str, number: usize) -> Result<String, AllocError>
+    ensures { IfOk result (λ longer. string_bytes longer ≡ string_bytes text ++ name.now ++ decimal number) }
+{
+    text.push_str(name)?;
+    write!(text, "{number}")?;
+    Ok(text)
 }
 
-/// All tasks of a feed, by phase, worker and place.
-fn tasks_of<'a>(alloc: Global, feed: &'a Feed) -> Result<Vec<Named<'a>>, AllocError> {
-    let mut all = Vec::new(alloc);
-    for (number, phase) in feed.phases.as_slice().iter().enumerate() {
-        push_phase(&mut all, number, phase)?;
-    }
-    Ok(all)
-}
-
-/// An id as it is printed.
-fn spelt(alloc: Global, id: &BlockId) -> Result<String, AllocError> {
-    match print_id(alloc, id) {
-        Ok(text) => Ok(text),
-        Err(_) => Err(AllocError),
-    }
+/// A text with the numbers of some tops and of the bytes of a bag behind it.
+fn with_sizes(text: String, tops: &BlockIds, bag: &Bytes) -> Result<String, AllocError>
+    ensures { IfOk result (λ longer. string_bytes longer
+        ≡ string_bytes text ++ codes " tops " ++ decimal (length tops.now)
+        ++ codes " bag " ++ decimal (length bag.now)) }
+{
+    with_number(with_number(text, " tops ", tops.len())?, " bag ", bag.len())
 }
 
 /// What a task is: its kind, its ids and its sizes.
-fn said_of(alloc: Global, task: &Task) -> Result<String, AllocError> {
+fn said_of(alloc: Global, task: &Task) -> Result<String, AllocError>
+    ensures { IfOk result (λ said. string_bytes said ≡ said_text task.now) }
+{
+    let none = String::new(alloc);
     match task {
-        Task::Zero { id, tops, bag } => {
-            format!(in alloc;
-                "zero {} tops {} bag {}",
-                spelt(alloc, id)?,
-                tops.len(),
-                bag.len()
-            )
-        }
+        Task::Zero { id, tops, bag } => with_sizes(with_id(alloc, none, "zero ", id)?, tops, bag),
         Task::Block {
             id,
             parent,
             tops,
             bag,
         } => {
-            format!(in alloc;
-                "block {} parent {} tops {} bag {}",
-                spelt(alloc, id)?,
-                spelt(alloc, parent)?,
-                tops.len(),
-                bag.len()
-            )
+            let named = with_id(alloc, none, "block ", id)?;
+            with_sizes(with_id(alloc, named, " parent ", parent)?, tops, bag)
         }
-        Task::Expire { id } => format!(in alloc; "expire {}", spelt(alloc, id)?),
-        Task::Read { id, path } => format!(in alloc;
-            "read {} path {}",
-            spelt(alloc, id)?,
-            path.len()
-        ),
-        Task::Slice { id, max } => format!(in alloc; "slice {} max {max}", spelt(alloc, id)?),
-        Task::Serve { id, max } => format!(in alloc; "serve {} max {max}", spelt(alloc, id)?),
+        Task::Expire { id } => with_id(alloc, none, "expire ", id),
+        Task::Read { id, path } => {
+            with_number(with_id(alloc, none, "read ", id)?, " path ", path.len())
+        }
+        Task::Slice { id, max } => {
+            with_number(with_id(alloc, none, "slice ", id)?, " max ", *max as usize)
+        }
+        Task::Serve { id, max } => {
+            with_number(with_id(alloc, none, "serve ", id)?, " max ", *max as usize)
+        }
         Task::Merged {
             id,
             left,
@@ -89,32 +74,110 @@ fn said_of(alloc: Global, task: &Task) -> Result<String, AllocError> {
             tops,
             bag,
         } => {
-            format!(in alloc;
-                "merged {} left {} right {} tops {} bag {}",
-                spelt(alloc, id)?,
-                spelt(alloc, left)?,
-                spelt(alloc, right)?,
-                tops.len(),
-                bag.len()
-            )
+            let named = with_id(alloc, none, "merged ", id)?;
+            let half = with_id(alloc, named, " left ", left)?;
+            with_sizes(with_id(alloc, half, " right ", right)?, tops, bag)
         }
     }
 }
 
+/// The line of a task, which has the numbers of its phase, its worker and itself.
+fn push_task(
+    alloc: Global,
+    text: &mut String,
+    phase: usize,
+    worker: usize,
+    number: usize,
+    task: &Task,
+) -> Result<(), AllocError>
+    ensures { OnOk result (string_bytes text.new
+        ≡ string_bytes text.old ++ task_line phase worker number task.now) }
+{
+    let said = said_of(alloc, task)?;
+    push_line(
+        text,
+        &format!(in alloc; "{phase}.{worker}.{number} {said}")?,
+    )
+}
+
+/// The lines of the tasks of a worker.
+fn push_worker(
+    alloc: Global,
+    text: &mut String,
+    phase: usize,
+    worker: usize,
+    tasks: &[Task],
+) -> Result<(), AllocError>
+    ensures { OnOk result (string_bytes text.new
+        ≡ string_bytes text.old ++ worker_lines phase worker tasks.now) }
+{
+    for (number, task) in tasks.iter().enumerate() {
+        push_task(alloc, text, phase, worker, number, task)?;
+    }
+    Ok(())
+}
+
+/// The lines of the tasks of a phase.
+fn push_phase(
+    alloc: Global,
+    text: &mut String,
+    number: usize,
+    phase: &Phase,
+) -> Result<(), AllocError>
+    ensures { OnOk result (string_bytes text.new ≡ string_bytes text.old ++ phase_lines number phase.now) }
+{
+    for (worker, tasks) in phase.workers.as_slice().iter().enumerate() {
+        push_worker(alloc, text, number, worker, tasks.as_slice())?;
+    }
+    Ok(())
+}
+
+/// A number and one more, which count tasks: no memory could hold more than a number can count.
+fn more_tasks(count: usize, more: usize) -> Result<usize, AllocError>
+    ensures { IfOk result (λ all. all ≡ count + more) }
+{
+    count.checked_add(more).ok_or(AllocError)
+}
+
+/// How many tasks a phase has.
+fn tasks_of_phase(phase: &Phase) -> Result<usize, AllocError>
+    ensures { IfOk result (λ count. count ≡ phase_tasks phase.now) }
+{
+    let mut count = 0;
+    for tasks in phase.workers.as_slice() {
+        count = more_tasks(count, tasks.len())?;
+    }
+    Ok(count)
+}
+
+/// How many tasks a feed has.
+fn tasks_of(feed: &Feed) -> Result<usize, AllocError>
+    ensures { IfOk result (λ count. count ≡ feed_tasks feed.now) }
+{
+    let mut count = 0;
+    for phase in feed.phases.as_slice() {
+        count = more_tasks(count, tasks_of_phase(phase)?)?;
+    }
+    Ok(count)
+}
+
 /// The line of a feed, and a line for each of its tasks.
-fn text_of(alloc: Global, feed: &Feed) -> Result<String, AllocError> {
-    let tasks = tasks_of(alloc, feed)?;
-    let mut text = format!(in alloc; "ok phases {} tasks {}\n", feed.phases.len(), tasks.len())?;
-    for named in &tasks {
-        let said = said_of(alloc, named.task)?;
-        let line = format!(in alloc; "{}.{}.{} {said}", named.phase, named.worker, named.number)?;
-        push_line(&mut text, &line)?;
+fn text_of(alloc: Global, feed: &Feed) -> Result<String, AllocError>
+    ensures { IfOk result (λ text. string_bytes text ≡ feed_lines feed.now) }
+{
+    let phases = feed.phases.len();
+    let tasks = tasks_of(feed)?;
+    let mut text = format!(in alloc; "ok phases {phases} tasks {tasks}\n")?;
+    for (number, phase) in feed.phases.as_slice().iter().enumerate() {
+        push_phase(alloc, &mut text, number, phase)?;
     }
     Ok(text)
 }
 
 /// The line of a feed and those of its tasks; where the bytes are none, the first field at fault.
-pub fn feed_text(alloc: Global, input: &[u8]) -> Result<String, AllocError> {
+pub fn feed_text(alloc: Global, input: &[u8]) -> Result<String, AllocError>
+    ensures { IfOk result (λ text. TellsFeed input.now (string_bytes text)) }
+{
     match feed_of(alloc, input)? {
         Ok(feed) => text_of(alloc, &feed),
         Err(fault) => {

@@ -1,1 +1,2 @@
 pub mod BothLaws
+pub mod RightTexts

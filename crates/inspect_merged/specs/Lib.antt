@@ -1,2 +1,3 @@
 pub mod BothStates
+pub mod MergedTexts
 pub mod MergedVerdicts

@@ -1,6 +1,5 @@
--- Trusted: what is said of bytes, and of the bytes of a line, as an update of the joined tree of two states.
+-- Trusted: what is said of bytes as an update of the joined tree of two states.
 use Rattle.std.specs.Prelude.{◌≡◌, ℕ, List, [], ◌∷◌, length, Some, Ok}
-use Rattle.hex.specs.Hex.{decode_of}
 use Rattle.cd_base.specs.declared.hash.Hash256.{Hash256}
 use Rattle.cd_cell.specs.Tree.{Tree, rep_of}
 use Rattle.cd_cell.specs.Export.{export_cmp, sorted_distinct}
@@ -37,7 +36,3 @@ module _ (H : List ℕ → Hash256) (a b : Tree) where
   abbrev pub IsTrueOverBoth : List ℕ → UpdateVerdict → Type 0
   IsTrueOverBoth bytes (Good shown new root) = (u : Tree) × Spells H bytes (u ∷ []) × IsMerged u shown new root
   IsTrueOverBoth bytes (Refused refusal) = IsWhyNotMerged bytes refusal
-
-  -- the same of the bytes that a line has in hexadecimal
-  abbrev pub IsTrueOverBothLine : List ℕ → UpdateVerdict → Type 0
-  IsTrueOverBothLine line verdict = (bytes : List ℕ) × (decode_of line ≡ Ok bytes) × IsTrueOverBoth bytes verdict

@@ -6,5 +6,5 @@ mod merged_verdict;
 mod texts;
 
 pub use both::BothStates;
-pub use merged_verdict::{merged_verdict_of, merged_verdict_of_line};
+pub use merged_verdict::merged_verdict_of;
 pub use texts::merged_text;

@@ -1,12 +1,11 @@
-ghost use Rattle.std.specs.Prelude.{◌≡◌, ℕ, List, ◌∷◌, [], IfOk, IfSome, IfNone, IsErr};
-ghost use Rattle.hex.specs.Hex.{decode_of};
+ghost use Rattle.std.specs.Prelude.{◌≡◌, ℕ, List, ◌∷◌, [], IfOk};
 ghost use Rattle.cd_boc_read.specs.Grammar.{Spells};
 ghost use Rattle.cd_update.specs.Pairing.{wanted_hashes_below};
 ghost use Rattle.cd_update.specs.UpdateTrees.{tree_of};
 ghost use Rattle.cd_prepare.specs.States.{Answers};
 ghost use Rattle.cd_prepare.specs.Merged.{merged_fault, IsMergeApplied};
 ghost use Rattle.inspect_updates.specs.OldStates.{state_of};
-ghost use Rattle.inspect_merged.specs.MergedVerdicts.{IsTrueOverBoth, IsTrueOverBothLine};
+ghost use Rattle.inspect_merged.specs.MergedVerdicts.{IsTrueOverBoth};
 
 use crate::both::BothStates;
 use cd_base::Hash256;
@@ -14,7 +13,6 @@ use cd_boc_read::{BagFault, read_bag};
 use cd_cell::{Hash32, Prepared};
 use cd_prepare::{PrepareFault, prepare_merged};
 use cd_update::Update;
-use inspect_lines::bytes_of_line;
 use inspect_updates::{Refusal, UpdateVerdict};
 use std::alloc::{AllocError, Global};
 
@@ -87,22 +85,5 @@ pub fn merged_verdict_of<H: Hash32>(
     match Update::of(&bag) {
         Ok(update) => prepared_verdict(alloc, both, &update),
         Err(fault) => Ok(UpdateVerdict::Refused(Refusal::Update(fault))),
-    }
-}
-
-/// The same of the bytes that a line has in hexadecimal; `None` where it is no hexadecimal.
-pub fn merged_verdict_of_line<H: Hash32>(
-    alloc: Global,
-    both: &BothStates<H>,
-    line: &[u8],
-) -> Result<Option<UpdateVerdict>, AllocError>
-    ensures said { IfOk result (λ said. IfSome said
-        (IsTrueOverBothLine H.digest_of (state_of H.digest_of both.now.left.whole)
-        (state_of H.digest_of both.now.right.whole) line.now)) }
-    ensures not_hexadecimal { IfOk result (λ said. IfNone said (IsErr (decode_of line.now))) }
-{
-    match bytes_of_line(alloc, line)? {
-        Some(bytes) => Ok(Some(merged_verdict_of(alloc, both, &bytes)?)),
-        None => Ok(None),
     }
 }

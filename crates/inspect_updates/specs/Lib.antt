@@ -1,3 +1,4 @@
 pub mod OldStates
 pub mod StateFaults
+pub mod UpdateTexts
 pub mod UpdateVerdicts

@@ -1,7 +1,6 @@
 -- Trusted: old states, that is all cells of a tree, which are found by their hashes.
-use Rattle.std.specs.Prelude.{◌≡◌, ℕ, List, [], ◌∷◌, map, find, Contains, Option, Ok}
+use Rattle.std.specs.Prelude.{◌≡◌, ℕ, List, [], ◌∷◌, map, find, Contains, Option}
 use Rattle.std.specs.Option.{option_map}
-use Rattle.hex.specs.Hex.{decode_of}
 use Rattle.cd_base.specs.declared.hash.Hash256.{Hash256}
 use Rattle.cd_cell.specs.declared.index.Index.{Index}
 use Rattle.cd_cell.specs.declared.new_cell.NewCell.{NewCell}
@@ -40,7 +39,3 @@ module _ (H : List ℕ → Hash256) where
   pub record IsStateBag (bytes : List ℕ) (value : PreparedView) (cells : ℕ) : Type 0 where
     pub spelt : Spells H bytes (state_of value ∷ [])
     pub counted : cells ≡ stated_cells bytes
-
-  -- the same of the bytes that a line has in hexadecimal
-  abbrev pub IsStateLine : List ℕ → PreparedView → ℕ → Type 0
-  IsStateLine line value cells = (bytes : List ℕ) × (decode_of line ≡ Ok bytes) × IsStateBag bytes value cells

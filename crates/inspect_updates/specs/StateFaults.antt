@@ -1,6 +1,5 @@
--- Trusted: why bytes are no state, and why those of a line are none.
-use Rattle.std.specs.Prelude.{◌≡◌, ℕ, List, Some, Ok}
-use Rattle.hex.specs.Hex.{decode_of}
+-- Trusted: why bytes are no state.
+use Rattle.std.specs.Prelude.{◌≡◌, ℕ, List, Some}
 use Rattle.cd_base.specs.declared.hash.Hash256.{Hash256}
 use Rattle.cd_cell.specs.Tree.{Tree}
 use Rattle.cd_boc_read.specs.Grammar.{Spells}
@@ -15,7 +14,3 @@ module _ (H : List ℕ → Hash256) where
   IsWhyNoState bytes (Bag fault) = bag_fault H bytes ≡ Some fault
   IsWhyNoState bytes (Update fault) = ⊥
   IsWhyNoState bytes (Prepare fault) = (trees : List Tree) × Spells H bytes trees × (state_fault H trees ≡ Some fault)
-
-  -- the same of the bytes that a line has in hexadecimal
-  abbrev pub IsWhyNoStateLine : List ℕ → Refusal → Type 0
-  IsWhyNoStateLine line refusal = (bytes : List ℕ) × (decode_of line ≡ Ok bytes) × IsWhyNoState bytes refusal

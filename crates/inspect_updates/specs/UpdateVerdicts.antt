@@ -1,6 +1,5 @@
--- Trusted: what is said of bytes, and of the bytes of a line, as an update of an old state.
+-- Trusted: what is said of bytes as an update of an old state.
 use Rattle.std.specs.Prelude.{◌≡◌, ℕ, List, [], ◌∷◌, length, Some, Ok}
-use Rattle.hex.specs.Hex.{decode_of}
 use Rattle.cd_base.specs.declared.hash.Hash256.{Hash256}
 use Rattle.cd_cell.specs.Tree.{Tree, rep_of}
 use Rattle.cd_cell.specs.Export.{export_cmp, sorted_distinct}
@@ -35,7 +34,3 @@ module _ (H : List ℕ → Hash256) (t : Tree) where
   abbrev pub IsTrueOver : List ℕ → UpdateVerdict → Type 0
   IsTrueOver bytes (Good shown new root) = (u : Tree) × Spells H bytes (u ∷ []) × IsUpdated u shown new root
   IsTrueOver bytes (Refused refusal) = IsWhyNoUpdate bytes refusal
-
-  -- the same of the bytes that a line has in hexadecimal
-  abbrev pub IsTrueOverLine : List ℕ → UpdateVerdict → Type 0
-  IsTrueOverLine line verdict = (bytes : List ℕ) × (decode_of line ≡ Ok bytes) × IsTrueOver bytes verdict

@@ -6,7 +6,7 @@ mod refusal;
 mod texts;
 mod update_verdict;
 
-pub use old_state::{OldState, state_of_line};
+pub use old_state::{OldState, read_state};
 pub use refusal::Refusal;
-pub use texts::{push_state, updates_text};
-pub use update_verdict::{UpdateVerdict, update_verdict_of, update_verdict_of_line};
+pub use texts::{read_state_line, updates_text};
+pub use update_verdict::{UpdateVerdict, update_verdict_of};

@@ -1,9 +1,8 @@
-ghost use Rattle.std.specs.Prelude.{◌≡◌, ℕ, List, ◌∷◌, [], None, Some, length, map, IfOk, IfErr, IfSome, IfNone, IsErr, MatchOption};
-ghost use Rattle.hex.specs.Hex.{decode_of};
+ghost use Rattle.std.specs.Prelude.{◌≡◌, ℕ, List, ◌∷◌, [], None, Some, length, map, IfOk, IfErr, MatchOption};
 ghost use Rattle.cd_cell.specs.Bags.{bag_trees};
 ghost use Rattle.cd_prepare.specs.States.{state_fault};
-ghost use Rattle.inspect_updates.specs.OldStates.{face_in, IsIndexed, state_of, IsState, IsStateBag, IsStateLine};
-ghost use Rattle.inspect_updates.specs.StateFaults.{IsWhyNoState, IsWhyNoStateLine};
+ghost use Rattle.inspect_updates.specs.OldStates.{face_in, IsIndexed, state_of, IsState, IsStateBag};
+ghost use Rattle.inspect_updates.specs.StateFaults.{IsWhyNoState};
 ghost use Rattle.inspect_bags.specs.Verdicts.{IsTrueOf};
 
 use crate::refusal::Refusal;
@@ -12,7 +11,6 @@ use cd_boc_read::{BagFault, read_bag};
 use cd_cell::{Bag, Face, Hash32, Index, NewCell, Prepared};
 use cd_prepare::{PrepareFault, prepare_zero};
 use inspect_bags::Verdict;
-use inspect_lines::bytes_of_line;
 use std::alloc::{AllocError, Global};
 
 /// A state whose cells are found by their hashes.
@@ -101,7 +99,7 @@ impl<H: Hash32> OldState<H> {
 }
 
 /// The state that bytes are the bag of, or why they are none, unless memory runs out.
-fn read_state<H: Hash32>(
+pub fn read_state<H: Hash32>(
     alloc: Global,
     bytes: &[u8],
 ) -> Result<Result<OldState<H>, Refusal>, AllocError>
@@ -116,22 +114,5 @@ fn read_state<H: Hash32>(
         },
         Err(BagFault::Memory) => Err(AllocError),
         Err(fault) => Ok(Err(Refusal::Bag(fault))),
-    }
-}
-
-/// The same of the bytes that a line has in hexadecimal; `None` where it is no hexadecimal.
-pub fn state_of_line<H: Hash32>(
-    alloc: Global,
-    line: &[u8],
-) -> Result<Option<Result<OldState<H>, Refusal>>, AllocError>
-    ensures state { IfOk result (λ said. IfSome said (λ answer. IfOk answer
-        (λ state. IsStateLine H.digest_of line.now state.whole state.bag_cells))) }
-    ensures refused { IfOk result (λ said. IfSome said
-        (λ answer. IfErr answer (IsWhyNoStateLine H.digest_of line.now))) }
-    ensures not_hexadecimal { IfOk result (λ said. IfNone said (IsErr (decode_of line.now))) }
-{
-    match bytes_of_line(alloc, line)? {
-        Some(bytes) => Ok(Some(read_state::<H>(alloc, &bytes)?)),
-        None => Ok(None),
     }
 }

@@ -1,3 +1,7 @@
+ghost use Rattle.std.specs.Prelude.{Some};
+ghost use Rattle.std.specs.Fmt.{DisplaysOnOk};
+ghost use Rattle.inspect_updates.specs.UpdateTexts.{fault_text};
+
 use cd_boc_read::BagFault;
 use cd_prepare::PrepareFault;
 use cd_update::UpdateFault;
@@ -16,6 +20,10 @@ pub enum Refusal {
 }
 
 impl fmt::Display for Refusal {
+    ghost use Rattle.inspect_updates.specs.UpdateTexts.{refusal_text};
+
+    ghost output = { refusal_text };
+
     fn fmt<W: fmt::Write>(&self, f: &mut fmt::Formatter<W>) -> fmt::Result {
         match self {
             Refusal::Bag(fault) => Verdict::Refused(*fault).fmt(f),
@@ -26,7 +34,9 @@ impl fmt::Display for Refusal {
 }
 
 /// Prints a fault with its fields, but for whole faces.
-fn print_fault<W: fmt::Write>(fault: &PrepareFault, f: &mut fmt::Formatter<W>) -> fmt::Result {
+fn print_fault<W: fmt::Write>(fault: &PrepareFault, f: &mut fmt::Formatter<W>) -> fmt::Result
+    ensures { DisplaysOnOk W.write_str_gives f.old result (Some (fault_text fault.now)) f.new }
+{
     match fault {
         PrepareFault::Level { mask } => write!(f, "Level {{ mask: {} }}", mask.byte()),
         PrepareFault::OldHash { stated, real } => {

@@ -1,12 +1,11 @@
-ghost use Rattle.std.specs.Prelude.{◌≡◌, ℕ, List, ◌∷◌, [], IfOk, IfSome, IfNone, IsErr};
-ghost use Rattle.hex.specs.Hex.{decode_of};
+ghost use Rattle.std.specs.Prelude.{◌≡◌, ℕ, List, ◌∷◌, [], IfOk};
 ghost use Rattle.cd_boc_read.specs.Grammar.{Spells};
 ghost use Rattle.cd_update.specs.Pairing.{wanted_hashes};
 ghost use Rattle.cd_update.specs.UpdateTrees.{tree_of};
 ghost use Rattle.cd_prepare.specs.States.{Answers};
 ghost use Rattle.cd_prepare.specs.Applied.{update_fault, IsUpdateApplied};
 ghost use Rattle.inspect_updates.specs.OldStates.{state_of};
-ghost use Rattle.inspect_updates.specs.UpdateVerdicts.{IsTrueOver, IsTrueOverLine};
+ghost use Rattle.inspect_updates.specs.UpdateVerdicts.{IsTrueOver};
 
 use crate::old_state::OldState;
 use crate::refusal::Refusal;
@@ -15,7 +14,6 @@ use cd_boc_read::{BagFault, read_bag};
 use cd_cell::{Hash32, Prepared};
 use cd_prepare::{PrepareFault, prepare_update};
 use cd_update::Update;
-use inspect_lines::bytes_of_line;
 use std::alloc::{AllocError, Global};
 use std::fmt;
 
@@ -95,23 +93,11 @@ pub fn update_verdict_of<H: Hash32>(
     }
 }
 
-/// The same of the bytes that a line has in hexadecimal; `None` where it is no hexadecimal.
-pub fn update_verdict_of_line<H: Hash32>(
-    alloc: Global,
-    state: &OldState<H>,
-    line: &[u8],
-) -> Result<Option<UpdateVerdict>, AllocError>
-    ensures said { IfOk result (λ said. IfSome said
-        (IsTrueOverLine H.digest_of (state_of H.digest_of state.now.whole) line.now)) }
-    ensures not_hexadecimal { IfOk result (λ said. IfNone said (IsErr (decode_of line.now))) }
-{
-    match bytes_of_line(alloc, line)? {
-        Some(bytes) => Ok(Some(update_verdict_of(alloc, state, &bytes)?)),
-        None => Ok(None),
-    }
-}
-
 impl fmt::Display for UpdateVerdict {
+    ghost use Rattle.inspect_updates.specs.UpdateTexts.{update_text};
+
+    ghost output = { update_text };
+
     fn fmt<W: fmt::Write>(&self, f: &mut fmt::Formatter<W>) -> fmt::Result {
         match self {
             UpdateVerdict::Good { shown, new, root } => {

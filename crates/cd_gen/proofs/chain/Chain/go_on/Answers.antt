@@ -8,9 +8,3 @@ update_of-requires c =
     let chain = c.args.self.now in
     let e : chain.seqno ≡ c.args.seqno - 1 = omega arith in
     c.deref.ensures.value ∙ chain.state_is ∙ ap (λ (k : ℕ). infos_of (state_of chain.owner.number chain.owner.chain k)) e
-
-pub state_after-requires : goal.state_after-requires
-state_after-requires c =
-    let chain = c.args.self.now in
-    let e : chain.seqno ≡ c.args.seqno - 1 = omega arith in
-    c.deref-2.ensures.value ∙ chain.state_is ∙ ap (λ (k : ℕ). infos_of (state_of chain.owner.number chain.owner.chain k)) e
