@@ -3,6 +3,15 @@ use Rattle.std.specs.Prelude.{◌≡◌, ℕ, List, Option, Some, None, string_b
 use Rattle.cd_words.specs.declared.command.Command.{Command}
 use Rattle.cd_words.specs.declared.command.Command.TheVariants as command
 use Rattle.cd_words.specs.Reading.{HasCommand}
+use Rattle.cd_keeper.specs.declared.fault.KeepFault.{KeepFault}
+use Rattle.cd_keeper.specs.declared.fault.KeepFault.TheVariants as keep
+use Rattle.cd_command.specs.declared.status.Status.{Status}
+use Rattle.cd_command.specs.declared.status.Status.TheVariants as status
+
+-- the status where the keeper over it can't be opened
+abbrev pub keeper_status : KeepFault → Status
+keeper_status keep.Failed = status.KeeperFault
+keeper_status keep.Memory = status.Memory
 
 -- the path that a command names
 abbrev pub path_in : Command → Option (List ℕ)

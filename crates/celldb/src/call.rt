@@ -3,12 +3,12 @@ ghost use Rattle.std.specs.Process.{exit_status};
 ghost use Rattle.cd_command.specs.Printing.{TextEnds};
 ghost use Rattle.cd_command.specs.StatusText.{code_of};
 ghost use Rattle.cd_words.specs.Pages.{page_of};
-ghost use Rattle.celldb.specs.Databases.{IsDatabase, path_in};
+ghost use Rattle.celldb.specs.Databases.{IsDatabase, keeper_status, path_in};
 ghost use Rattle.celldb.specs.Runs.{HasSaid, IsRun, IsPage};
 
 use cd_base::{Memory, Sink, Source, write_all};
 use cd_cell::Hash32;
-use cd_keeper::Keeper;
+use cd_keeper::{KeepFault, Keeper};
 use cd_top::{Ended, Status, WordFault, celldb_once};
 use cd_words::{Command, Page, page_of, page_text, read_words};
 use std::alloc::Global;
@@ -30,6 +30,16 @@ pub fn status_without_words(error: ErrorKind) -> Status {
     match error {
         ErrorKind::OutOfMemory => Status::Memory,
         _ => Status::Usage(WordFault::Usage),
+    }
+}
+
+/// The status where a database can't be opened.
+pub fn status_of_keeper(fault: KeepFault) -> Status
+    ensures { result ≡ keeper_status fault }
+{
+    match fault {
+        KeepFault::Failed => Status::KeeperFault,
+        KeepFault::Memory => Status::Memory,
     }
 }
 

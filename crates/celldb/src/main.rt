@@ -3,11 +3,14 @@
 
 mod call;
 
-use crate::call::{database_of, end, run, status_without_words, words_behind_name};
+use crate::call::{
+    database_of, end, run, status_of_keeper, status_without_words, words_behind_name,
+};
 use cd_base::{StdSink, StdSource};
 use cd_cell::Sha;
 use cd_keeper::SteadyKeeper;
-use cd_top::{Status, WordFault};
+use cd_keeper_sql::SqlKeeper;
+use cd_top::Status;
 use std::process::ExitCode;
 use std::rt::Env;
 use std::{env, io};
@@ -32,8 +35,17 @@ fn main(rt: HostRuntime) -> ExitCode {
     };
     let behind = words_behind_name(&words);
     match database_of(alloc, behind) {
-        // The keeper over a database isn't there yet.
-        Ok(Some(_)) => end(Status::Usage(WordFault::Usage), &mut err),
+        Ok(Some(path)) => match SqlKeeper::open(&rt, path.as_str()) {
+            Ok(keeper) => run::<_, _, _, _, Sha>(
+                alloc,
+                behind,
+                &mut input,
+                &mut out,
+                &mut err,
+                keeper,
+            ),
+            Err(fault) => end(status_of_keeper(fault), &mut err),
+        },
         Ok(None) => run::<_, _, _, _, Sha>(
             alloc,
             behind,
