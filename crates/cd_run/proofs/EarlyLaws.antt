@@ -42,7 +42,7 @@ module _ {H : Type 0} (digest : List ℕ → Hash256) where
     begun : (job : Task) → slice_get jobs last ≡ Some job → TaskBegun digest pins (name p w (n + last)) job (of_name (name p w (n + last)) es)
     no_further : (i : ℕ) → last < i → of_name (name p w (n + i)) es ≡ []
 
-  tasks_of_begun : (pins : List Named) (p w n : ℕ) (jobs : List Task) (es : List (Entry H)) → WorkerBegun digest pins p w n jobs es → All (IsTaskFrom digest p w n jobs) es
+  pub tasks_of_begun : (pins : List Named) (p w n : ℕ) (jobs : List Task) (es : List (Entry H)) → WorkerBegun digest pins p w n jobs es → All (IsTaskFrom digest p w n jobs) es
   tasks_of_begun pins p w n [] es is = subst (All (IsTaskFrom digest p w n [])) (sym is) (All-nil (IsTaskFrom digest p w n []))
   tasks_of_begun pins p w n (job ∷ jobs) es begun = ⊎_elim
       (λ (here : TaskBegun digest pins (name p w n) job es). All-map (λ e. e.who ≡ name p w n) (IsTaskFrom digest p w n (job ∷ jobs)) es

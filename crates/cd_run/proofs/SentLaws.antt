@@ -15,7 +15,7 @@ use Rattle.cd_run.specs.declared.outcome.TaskRefusal.{TaskRefusal}
 use Rattle.cd_run.specs.declared.outcome.TaskRefusal.TheVariants as word
 use Rattle.cd_run.specs.declared.pinned.Halt.{Halt}
 use Rattle.cd_run.specs.declared.pinned.Halt.TheVariants as halt
-use Rattle.cd_run.specs.Clients.{Sent, Serves}
+use Rattle.cd_run.specs.Clients.{Sent}
 use Rattle.cd_run.specs.Runs.{let_go_end}
 use Rattle.cd_run.specs.Stages.{LetGoBy, work_end}
 use Rattle.cd_run.proofs.KeeperLaws.{word_in, ok_in}
@@ -63,15 +63,6 @@ module _ {H : Type 0} (who : Who) (pin : ℕ) where
   same_refused (Err halt.Memory) es (Ok last) by why is other = absurd by
   same_refused work es (Err memory) by why is other = cc
 
--- ---- lists of pins
-
-same_last : (xs : List Named) (a b : Named) → xs ++ a ∷ [] ≡ xs ++ b ∷ [] → a ≡ b
-same_last [] a b is = cc
-same_last (x ∷ xs) a b is = same_last xs a b (ap (drop 1) is)
-
-no_more : (xs : List Named) (m : Named) → xs ++ m ∷ [] ≡ xs → ⊥
-no_more xs m is = let long = ap length is in let sum = length-append xs (m ∷ []) in omega arith
-
 -- ---- clients
 
 module _ {C : Type 0} (got : C → Option (List ℕ)) (steady : C → Bool) (digest : List ℕ → Hash256) (told : Option Tree) (old : List C) where
@@ -102,14 +93,4 @@ module _ {C : Type 0} (got : C → Option (List ℕ)) (steady : C → Bool) (dig
     numbers = λ b d f is. sent.numbers b d f (same_serve who pin work es result by b d f is);
     kept = λ why is other. sent.kept why (same_refused who pin work es result by why is other) other;
     steadied = sent.steadied;
-  }
-
-module _ {C : Type 0} (got : C → Option (List ℕ)) (steady : C → Bool) (digest : List ℕ → Hash256) (pins_old pins_new : List Named) (old new : List C) (result : Result Outcome Memory) where
-  pub serves_unpinned : pins_new ≡ pins_old → new ≡ old → Serves got steady digest pins_old pins_new old new result
-  serves_unpinned none same = record { untouched = λ _. same; sent = λ m is. absurd (no_more pins_old m (sym is ∙ none)) }
-
-  pub serves_pinned : (m : Named) → pins_new ≡ pins_old ++ m ∷ [] → Sent got steady digest m.tree old new result → Serves got steady digest pins_old pins_new old new result
-  serves_pinned m is sent = record {
-    untouched = λ none. absurd (no_more pins_old m (sym is ∙ none));
-    sent = λ n its. subst (λ (v : Named). Sent got steady digest v.tree old new result) (same_last pins_old m n (sym is ∙ its)) sent;
   }

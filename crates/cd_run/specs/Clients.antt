@@ -1,10 +1,10 @@
 -- Trusted: what a task leaves of the clients that it is handed.
-use Rattle.std.specs.Prelude.{◌≡◌, ◌≢◌, ℕ, ◌+◌, Bool, List, [], ◌∷◌, ◌++◌, length, count_by, Option, IfSome, Result, Ok}
+use Rattle.std.specs.Prelude.{◌≡◌, ◌≢◌, ◌⊎◌, ℕ, ◌+◌, Bool, List, length, count_by, Option, Some, IfSome, Result, Ok}
 use Rattle.cd_base.specs.declared.answers.Memory.{Memory}
 use Rattle.cd_base.specs.declared.hash.Hash256.{Hash256}
 use Rattle.cd_boc_write.specs.Exports.{bag_of}
 use Rattle.cd_cell.specs.Tree.{Tree}
-use Rattle.cd_event.specs.Pins.{Named}
+use Rattle.cd_event.specs.Pins.{Named, find_pin}
 use Rattle.cd_fan.specs.Fans.{HaveGot, HaveGotPart, HaveGotBytes}
 use Rattle.cd_feed.specs.declared.feed.Task.{Task}
 use Rattle.cd_feed.specs.declared.feed.Task.TheVariants as task
@@ -34,12 +34,12 @@ module _ {C : Type 0} (got : C → Option (List ℕ)) (steady : C → Bool) (dig
     -- a steady client is never taken out
     pub steadied : count_by steady new ≡ count_by steady old
 
-  -- what a serve leaves, by the pins of its worker before and after it
-  pub record Serves (pins_old pins_new : List Named) (old new : List C) (result : Result Outcome Memory) : Type 0 where
-    pub untouched : pins_new ≡ pins_old → new ≡ old
-    pub sent : (m : Named) → pins_new ≡ pins_old ++ m ∷ [] → Sent m.tree old new result
+  -- what a serve leaves, by its worker's pins behind it: what they were, or, under its pin, what it sent
+  abbrev pub Serves : List Named → List C → List C → Result Outcome Memory → Type 0
+  Serves pins old new result = (new ≡ old)
+      ⊎ ((m : Named) × (find_pin pins m.number ≡ Some m) × Sent m.tree old new result)
 
   -- every other task leaves them as they were
-  abbrev pub LeavesClients : List Named → List Named → Task → List C → List C → Result Outcome Memory → Type 0
-  LeavesClients pins_old pins_new (task.Serve id max) old new result = Serves pins_old pins_new old new result
-  LeavesClients pins_old pins_new _ old new result = new ≡ old
+  abbrev pub LeavesClients : List Named → Task → List C → List C → Result Outcome Memory → Type 0
+  LeavesClients pins (task.Serve id max) old new result = Serves pins old new result
+  LeavesClients pins _ old new result = new ≡ old

@@ -124,7 +124,7 @@ pub(crate) fn do_serve<T: Turns>(
     requires fresh { HaveGotBytes (λ c. got c) 0 clients.old.items }
     ensures did { Did T.Hash.digest_of T.worker T.faults T.made T.goes T.named who (Task.Serve id max)
         turns.old turns.new result }
-    ensures clients { Serves (λ c. got c) (λ c. steady c) T.Hash.digest_of (T.named turns.old) (T.named turns.new)
+    ensures clients { Serves (λ c. got c) (λ c. steady c) T.Hash.digest_of (T.named turns.new)
         clients.old.items clients.new.items result }
 {
     let at = At {

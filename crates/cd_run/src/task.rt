@@ -35,7 +35,7 @@ pub fn do_task<T: Turns, P: Holdup>(
     ensures did { Did T.Hash.digest_of T.worker T.faults T.made T.goes T.named who task.now
         turns.old turns.new result }
     ensures clients { LeavesClients (λ c. got c) (λ c. steady c) T.Hash.digest_of
-        (T.named turns.old) (T.named turns.new) task.now clients.old.items clients.new.items result }
+        (T.named turns.new) task.now clients.old.items clients.new.items result }
 {
     match task {
         Task::Zero { id, tops, bag } => {

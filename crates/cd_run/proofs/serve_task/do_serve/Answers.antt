@@ -1,9 +1,9 @@
-use Rattle.std.proofs.Common.{◌≡◌, append-nil, ap, subst, ◌∙◌}
+use Rattle.std.proofs.Common.{◌≡◌, inr, Some, append-nil, ap, ap₂, subst, ◌∙◌}
 use Rattle.std.specs.Option.{option_and_then}
-use Rattle.cd_event.specs.Pins.{state_of}
+use Rattle.cd_event.specs.Pins.{state_of, find_pin}
 use Rattle.cd_run.specs.Clients.{Sent}
 use Rattle.cd_run.specs.Stages.{is_halted}
-use Rattle.cd_run.proofs.SentLaws.{sent_further, serves_pinned}
+use Rattle.cd_run.proofs.SentLaws.{sent_further}
 use Rattle.cd_feed.specs.declared.feed.Task.TheVariants as task
 use Rattle.cd_run.specs.Finds.{ServeFinds}
 use Rattle.cd_run.specs.Runs.{IsAnyNumber}
@@ -37,6 +37,6 @@ returns-clause-clients g c =
     let same : T.named c.let_go.new.turns ≡ T.named c.take_pin.new.turns = c.let_go.ensures.pinned ∙ (append-nil (T.named c.serve_pin-end.new.turns)
     ∙ looks_named T.worker T.faults T.made T.goes T.named (is_halted work) _ c.in-Ok.pinned.pin c.take_pin.new.turns c.serve_pin-end.new.turns 0 looks.0 looks.1) in
     let told : state_of (T.named c.take_pin.new.turns) c.in-Ok.pinned.pin ≡ came.pin.tree = ap (option_and_then (λ n. n.tree)) came.found in
-    serves_pinned _ _ H (T.named c.args.turns.now) (T.named c.let_go.new.turns) old new c.let_go.result came.pin (same ∙ came.stage.pinned)
-    (subst (λ t. Sent (λ b. (goal.SliceClient-dyn g (b.vtable, b.value)).got b.value) (λ b. (goal.SliceClient-dyn g (b.vtable, b.value)).steady b.value) H t old new c.let_go.result) told
+    let kept : find_pin (T.named c.let_go.new.turns) came.pin.number ≡ Some came.pin = ap₂ find_pin same came.number ∙ came.found in
+    inr (came.pin, kept, subst (λ t. Sent (λ b. (goal.SliceClient-dyn g (b.vtable, b.value)).got b.value) (λ b. (goal.SliceClient-dyn g (b.vtable, b.value)).steady b.value) H t old new c.let_go.result) told
     (sent_further _ _ H (state_of (T.named c.take_pin.new.turns) c.in-Ok.pinned.pin) old new _ c.in-Ok.pinned.pin work c.let_go.ensures.entries c.let_go.result c.let_go.ensures.are c.serve_pin-end.ensures.sent))

@@ -1,0 +1,17 @@
+//! Tests of the core, beside the crate that they test.
+#![tactic(auto)]
+
+#[cfg(test)]
+mod cores;
+#[cfg(test)]
+mod names;
+#[cfg(test)]
+mod scripts;
+#[cfg(test)]
+mod tables;
+#[cfg(test)]
+mod tests;
+#[cfg(test)]
+mod untold;
+#[cfg(test)]
+mod values;

@@ -1,0 +1,91 @@
+use crate::cores::{empty_core, full_count_of_four_places};
+use crate::scripts::{Deed, Due, Step, play_all, take};
+use crate::tables::{
+    CLASHES, COLLECTED_BY_A_MERGE, COLLECTED_BY_UNPIN, EXPIRY, FIRST, FULL_COUNTS, LEFT_AND_RIGHT,
+    MERGED, MERGED_AND_COLLECTED, MERGED_ANEW, NAMES, ONE, RIGHT_AND_LEFT, TWICE,
+};
+use cd_base::Hash256;
+use std::test::Fail;
+
+/// What comes behind 64 pins of worker 1.
+const PAST_64: [Step; 6] = [
+    Step(1, Deed::Pin(FIRST), Due::PinsFull),
+    Step(2, Deed::Pin(FIRST), Due::Pinned(64)),
+    Step(2, Deed::Unpin(5), Due::NoPin),
+    Step(2, Deed::Look(5, 3, &[1]), Due::NoPin),
+    Step(1, Deed::Unpin(5), Due::Unpinned(false)),
+    Step(1, Deed::Pin(FIRST), Due::Pinned(65)),
+];
+
+/// SHA-256 of two zero bytes, which is the hash of the empty cell.
+const EMPTY: Hash256 = Hash256([
+    0x96, 0xa2, 0x96, 0xd2, 0x24, 0xf2, 0x85, 0xc6, 0x7b, 0xee, 0x93, 0xc3, 0x0f, 0x8a, 0x30, 0x91,
+    0x57, 0xf0, 0xda, 0xa3, 0x5d, 0xc5, 0xb8, 0x7e, 0x41, 0x0b, 0x78, 0x63, 0x0a, 0x09, 0xcf, 0xc7,
+]);
+
+#[test]
+fn blocks_expire_and_are_collected(rt: HostRuntime) -> Result<(), Fail> {
+    let alloc = rt.alloc();
+    assert!(rt; play_all(alloc, &EXPIRY)?, "an expiry");
+    assert!(rt;
+        play_all(alloc, &COLLECTED_BY_A_MERGE)?,
+        "collected by a merge"
+    );
+    assert!(rt; play_all(alloc, &COLLECTED_BY_UNPIN)?, "collected by unpin");
+    Ok(())
+}
+
+#[test]
+fn two_blocks_follow_one_parent(rt: HostRuntime) -> Result<(), Fail> {
+    let alloc = rt.alloc();
+    assert!(rt; play_all(alloc, &LEFT_AND_RIGHT)?, "the left one first");
+    assert!(rt; play_all(alloc, &RIGHT_AND_LEFT)?, "the right one first");
+    Ok(())
+}
+
+#[test]
+fn states_and_blocks_are_refused(rt: HostRuntime) -> Result<(), Fail> {
+    let alloc = rt.alloc();
+    assert!(rt; play_all(alloc, &CLASHES)?, "clashes");
+    assert!(rt; play_all(alloc, &FULL_COUNTS)?, "full counts");
+    assert!(rt; play_all(alloc, &TWICE)?, "a state twice");
+    assert!(rt; play_all(alloc, &NAMES)?, "names");
+    Ok(())
+}
+
+#[test]
+fn a_worker_has_64_pins_of_its_own(rt: HostRuntime) -> Result<(), Fail> {
+    let alloc = rt.alloc();
+    let mut core = empty_core(alloc, 9, Vec::new(alloc));
+    let mut failed = 0;
+    let state = Step(1, Deed::Zero(FIRST, &ONE, &[]), Due::Stored);
+    assert!(rt; take(alloc, &mut core, &state, &mut failed)?);
+    for pin in 0..64 {
+        let step = Step(1, Deed::Pin(FIRST), Due::Pinned(pin));
+        assert!(rt; take(alloc, &mut core, &step, &mut failed)?, "pin {pin}");
+    }
+    for step in PAST_64 {
+        assert!(rt; take(alloc, &mut core, &step, &mut failed)?);
+    }
+    Ok(())
+}
+
+#[test]
+fn blocks_follow_two_parents(rt: HostRuntime) -> Result<(), Fail> {
+    let alloc = rt.alloc();
+    assert!(rt; play_all(alloc, &MERGED)?, "the joined state");
+    assert!(rt; play_all(alloc, &MERGED_ANEW)?, "another root");
+    assert!(rt;
+        play_all(alloc, &MERGED_AND_COLLECTED)?,
+        "both parents leaving"
+    );
+    Ok(())
+}
+
+#[test]
+fn a_count_stops_at_the_limit(rt: HostRuntime) -> Result<(), Fail> {
+    let alloc = rt.alloc();
+    assert!(rt; full_count_of_four_places(alloc, 3)? == Some((EMPTY, 4)));
+    assert!(rt; full_count_of_four_places(alloc, 4)?.is_none());
+    Ok(())
+}

@@ -1,0 +1,4 @@
+pub mod PinLaws
+pub mod TaskLaws
+pub mod WorkerLaws
+pub mod ClientLaws

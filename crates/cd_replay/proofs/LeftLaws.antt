@@ -1,0 +1,117 @@
+-- What parts leave of the clients, one part more.
+use Rattle.std.proofs.Common.{◌≡◌, ◌⊎◌, inl, inr, ⊎_elim, ℕ, zero, suc, ◌+◌, ◌<◌, ◌≤◌, List, [], ◌∷◌, ◌++◌, length, take, drop, get_or, slice_get, Option, Some, None, refl, sym, ap, subst, ◌∙◌, arith}
+use Rattle.std.specs.Prelude.{sum_by}
+use Rattle.std.proofs.lemmas.List.{take_more, drop_more, take-append-drop, length-take}
+use Rattle.std.proofs.lemmas.List.Sums.{sum_by-append}
+use Rattle.std.proofs.lemmas.Option.{none-some, same_Some, slice_get_within}
+use Rattle.cd_fan.specs.Fans.{HaveGotBytes}
+use Rattle.cd_lanes.proofs.ClientLaws.{get_before, get_last}
+use Rattle.cd_replay.specs.Left.{IsOneOf, LeftByOne}
+
+pub sum_with : {X : Type 0} (f : X → ℕ) (xs : List X) (x : X) (later : List X) → sum_by f (xs ++ x ∷ later) ≡ sum_by f xs + (f x + sum_by f later)
+sum_with f xs x later = omega (arith, sum_by-append f xs (x ∷ later), sum_by-append f (x ∷ []) later)
+
+-- what the parts ended with, and one more
+pub record EndsOneMore {E : Type 0} (count : ℕ) (ends all : List E) (end : E) : Type 0 where
+  pub before : (place : ℕ) (e : E) → place < count → slice_get all place ≡ Some e → slice_get ends place ≡ Some e
+  pub here : (e : E) → slice_get all count ≡ Some e → e ≡ end
+
+pub one_more_end : {E : Type 0} (count : ℕ) (ends all : List E) (end : E) → length ends ≡ count → all ≡ ends ++ end ∷ [] → EndsOneMore count ends all end
+one_more_end count ends all end beside is = record {
+  before = λ place e lt at. sym (get_before ends (end ∷ []) place (omega arith)) ∙ ap (λ l. slice_get l place) (sym is) ∙ at;
+  here = λ e at. sym (same_Some end e (sym (get_last ends end []) ∙ (ap (slice_get (ends ++ end ∷ [])) beside ∙ ap (λ l. slice_get l count) (sym is) ∙ at)));
+}
+
+pub no_end : {E : Type 0} (count : ℕ) (ends : List E) (end : E) → EndsOneMore count ends [] end
+no_end count ends end = record { before = λ place e lt at. absurd (none-some e at); here = λ e at. absurd (none-some e at) }
+
+module _ {X E C : Type 0} (f : X → ℕ) (Is Then : ℕ → X → E → List C → List C → Type 0) (parts : List X) (part : X) (later : List X) (old mid new : List C)
+    (one : sum_by f (parts ++ part ∷ later) ≤ 1) (untouched : sum_by f parts ≡ 0 → mid ≡ old) where
+
+  pub one_here : f part ≤ 1
+  one_here = omega (arith, sum_with f parts part later, one)
+
+  pub fresh_here : (got : C → Option (List ℕ)) → (1 ≤ sum_by f (parts ++ part ∷ later) → HaveGotBytes got 0 old) → 1 ≤ f part → HaveGotBytes got 0 mid
+  fresh_here got fresh some = subst (HaveGotBytes got 0) (sym (untouched (omega (arith, sum_with f parts part later, one, some)))) (fresh (omega (arith, sum_with f parts part later, some)))
+
+  pub untouched_here : (f part ≡ 0 → new ≡ mid) → sum_by f (parts ++ part ∷ later) ≡ 0 → new ≡ old
+  untouched_here still none = still (omega (arith, sum_with f parts part later, none)) ∙ untouched (omega (arith, sum_with f parts part later, none))
+
+  module _ (grow : (k : ℕ) (x : X) (e : E) (o n : List C) → Is k x e o n → Then k x e o n) (ends all : List E) (end : E) (left : LeftByOne Is parts ends old mid) (still : f part ≡ 0 → new ≡ mid)
+      (its : (new ≡ mid) ⊎ Then (length parts) part end mid new) (more : EndsOneMore (length parts) ends all end) where
+
+    kept : new ≡ mid → LeftByOne Then (parts ++ part ∷ later) all old new
+    kept same = ⊎_elim (λ (is : mid ≡ old). inl (same ∙ is))
+        (λ (s : IsOneOf Is parts ends old mid).
+          let lt = slice_get_within parts s.place s.part s.at in
+          inr (record {
+            place = s.place;
+            part = s.part;
+            at = get_before parts (part ∷ later) s.place lt ∙ s.at;
+            end = s.end;
+            ended = λ e at. s.ended e (more.before s.place e lt at);
+            is = subst (λ (cs : List C). Then s.place s.part s.end old cs) (sym same) (grow s.place s.part s.end old mid s.is);
+          })) left
+
+    pub left_here : LeftByOne Then (parts ++ part ∷ later) all old new
+    left_here = by (f part) refl
+      where
+        by : (n : ℕ) → f part ≡ n → LeftByOne Then (parts ++ part ∷ later) all old new
+        by zero none = kept (still none)
+        by (suc n) some = ⊎_elim (λ (same : new ≡ mid). kept same)
+            (λ (s : Then (length parts) part end mid new). inr (record {
+              place = length parts;
+              part = part;
+              at = get_last parts part later;
+              end = end;
+              ended = more.here;
+              is = subst (λ (cs : List C). Then (length parts) part end cs new) (untouched (omega (arith, sum_with f parts part later, one, some))) s;
+            })) its
+
+-- ---- by the number of the part
+
+module _ {X : Type 0} (parts : List X) (n : ℕ) (lt : n < length parts) (part : X) (is : part ≡ get_or parts n part) where
+  pub so_far : take n parts ++ part ∷ [] ≡ take (n + 1) parts
+  so_far = sym (take_more parts n part lt ∙ ap (λ x. take n parts ++ x ∷ []) (sym is))
+
+  pub all_of : take n parts ++ part ∷ drop (n + 1) parts ≡ parts
+  all_of = ap (λ l. take n parts ++ l) (sym (drop_more parts n part lt ∙ ap (λ x. x ∷ drop (n + 1) parts) (sym is))) ∙ take-append-drop n parts
+
+  pub its_place : length (take n parts) ≡ n
+  its_place = omega (arith, length-take n parts)
+
+  module _ {E C : Type 0} (f : X → ℕ) (Is Then : ℕ → X → E → List C → List C → Type 0) (old mid : List C) (one : sum_by f parts ≤ 1) (untouched : sum_by f (take n parts) ≡ 0 → mid ≡ old) where
+    one_all : sum_by f (take n parts ++ part ∷ drop (n + 1) parts) ≤ 1
+    one_all = subst (λ l. sum_by f l ≤ 1) (sym all_of) one
+
+    one_so_far : sum_by f (take n parts ++ part ∷ []) ≤ 1
+    one_so_far = omega (arith, sum_with f (take n parts) part [], sum_with f (take n parts) part (drop (n + 1) parts), one_all)
+
+    pub one_at : f part ≤ 1
+    one_at = one_here f Is Then (take n parts) part (drop (n + 1) parts) old mid mid one_all untouched
+
+    pub fresh_at : (got : C → Option (List ℕ)) → (1 ≤ sum_by f parts → HaveGotBytes got 0 old) → 1 ≤ f part → HaveGotBytes got 0 mid
+    fresh_at got fresh some = fresh_here f Is Then (take n parts) part (drop (n + 1) parts) old mid mid one_all untouched got (λ le. fresh (subst (λ l. 1 ≤ sum_by f l) all_of le)) some
+
+    module _ (new : List C) (still : f part ≡ 0 → new ≡ mid) where
+      pub untouched_next : sum_by f (take (n + 1) parts) ≡ 0 → new ≡ old
+      untouched_next none = untouched_here f Is Then (take n parts) part [] old mid new one_so_far untouched still (ap (sum_by f) so_far ∙ none)
+
+      pub untouched_end : sum_by f parts ≡ 0 → new ≡ old
+      untouched_end none = untouched_here f Is Then (take n parts) part (drop (n + 1) parts) old mid new one_all untouched still (ap (sum_by f) all_of ∙ none)
+
+      module _ (grow : (k : ℕ) (x : X) (e : E) (o m : List C) → Is k x e o m → Then k x e o m) (ends all : List E) (end : E) (left : LeftByOne Is (take n parts) ends old mid)
+          (its : (new ≡ mid) ⊎ Then n part end mid new) (more : EndsOneMore n ends all end) where
+        its_here : (new ≡ mid) ⊎ Then (length (take n parts)) part end mid new
+        its_here = subst (λ k. (new ≡ mid) ⊎ Then k part end mid new) (sym its_place) its
+
+        more_here : EndsOneMore (length (take n parts)) ends all end
+        more_here = subst (λ k. EndsOneMore k ends all end) (sym its_place) more
+
+        pub left_next : LeftByOne Then (take (n + 1) parts) all old new
+        left_next = subst (λ l. LeftByOne Then l all old new) so_far
+            (left_here f Is Then (take n parts) part [] old mid new one_so_far untouched grow ends all end left still its_here more_here)
+
+        pub left_end : LeftByOne Then parts all old new
+        left_end = subst (λ l. LeftByOne Then l all old new) all_of
+            (left_here f Is Then (take n parts) part (drop (n + 1) parts) old mid new one_all untouched grow ends all end left still its_here more_here)

@@ -1,0 +1,5 @@
+mod OnCore
+mod PinsGrow
+mod PhaseLaws
+mod LeftLaws
+mod FeedLaws
