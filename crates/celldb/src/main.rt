@@ -37,12 +37,7 @@ fn main(rt: HostRuntime) -> ExitCode {
     match database_of(alloc, behind) {
         Ok(Some(path)) => match SqlKeeper::open(&rt, path.as_str()) {
             Ok(keeper) => run::<_, _, _, _, Sha>(
-                alloc,
-                behind,
-                &mut input,
-                &mut out,
-                &mut err,
-                keeper,
+                alloc, behind, &mut input, &mut out, &mut err, keeper,
             ),
             Err(fault) => end(status_of_keeper(fault), &mut err),
         },
