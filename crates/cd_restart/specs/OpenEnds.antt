@@ -43,10 +43,13 @@ module _ (H : List ℕ → Hash256) {K : Type 0} (k : KeeperGhosts K) where
   IsLeft old now = KeepsHeld k.held k.trail k.batches old now
       ⊎ IfSome (k.held old) (λ contents. (left : World) × (passed : List World) × IsSettledTo contents left passed old now)
 
-  -- the core begins with the settled world of a store, nothing is left to settle, and there is no entry
+  -- the core begins with the settled world of a store and with its keeper as it is, nothing is left to settle, there is no
+  -- entry, and no fault was counted
   pub record IsOpenedCore {X : Type 0} (old : K) (limit : ℕ) (now : CoreView K X) : Type 0 where
     pub journal : now.journal ≡ []
     pub limited : now.start.limit ≡ limit
+    pub begun : now.start.keeper.value ≡ now.keeper
+    pub steady : k.faults now.keeper ≡ k.faults old
     pub silent : k.held old ≡ None → k.held now.keeper ≡ None
     pub told : IfSome (k.held old) (λ contents.
         (now.start.world.value ≡ settled (world_of (blocks_in contents)))

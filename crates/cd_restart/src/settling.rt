@@ -1,6 +1,6 @@
 //! A store is opened: scanned, handed to a core, and settled.
 
-ghost use Rattle.std.specs.Prelude.{◌≡◌, ◌≤◌, [], List, IfOk, IfErr};
+ghost use Rattle.std.specs.Prelude.{◌≡◌, ◌≤◌, [], List, IfOk, IfErr, OnOk};
 ghost use Rattle.cd_event.specs.Turning.{RisesOnly};
 ghost use Rattle.cd_record.specs.declared.limits.TheConstants.{GREATEST_COUNT};
 ghost use Rattle.cd_world.specs.declared.world.World.{World};
@@ -71,6 +71,8 @@ fn settle<K: Keeper, H: Hash32>(core: &mut Core<K, H>) -> Result<(), UnpinFault>
     ensures journal { core.new.journal ≡ [] }
     ensures settling { (passed : List World) × IsSettling H.digest_of K.Keeper core.old core.new passed }
     ensures all { IsAll result core.new }
+    ensures begun { OnOk result (core.old.start.keeper.value ≡ core.old.keeper
+        → core.new.start.keeper.value ≡ core.new.keeper) }
     ensures cause { RisesOnly (is_keeper_fault result) (K.faults core.old.keeper) (K.faults core.new.keeper) }
     ensures outside { IsOutsideFault result }
 {

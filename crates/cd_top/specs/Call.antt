@@ -1,5 +1,5 @@
 -- Trusted: how a call of the program ends, by its words.
-use Rattle.std.specs.Prelude.{◌≡◌, ◌⊎◌, ℕ, List, [], None}
+use Rattle.std.specs.Prelude.{◌≡◌, ◌⊎◌, ℕ, List, [], Option, Some, None}
 use Rattle.cd_base.specs.declared.hash.Hash256.{Hash256}
 use Rattle.cd_base.specs.declared.source.Source.{Ghosts as SourceGhosts}
 use Rattle.cd_base.specs.declared.sink.Sink.{Ghosts as SinkGhosts}
@@ -10,26 +10,35 @@ use Rattle.cd_words.specs.declared.command.Command.TheVariants as command
 use Rattle.cd_words.specs.declared.fault.WordFault.{WordFault}
 use Rattle.cd_words.specs.declared.fault.WordFault.TheVariants as word
 use Rattle.cd_words.specs.Reading.{HasCommand, IsRefusal}
-use Rattle.cd_top.specs.declared.status.Status.{Status}
-use Rattle.cd_top.specs.declared.status.Status.TheVariants as status
-use Rattle.cd_top.specs.declared.zero.ZeroName.{ZeroName}
-use Rattle.cd_top.specs.ZeroCall.{AreSame, ZeroEnds}
+use Rattle.cd_command.specs.declared.status.Status.{Status}
+use Rattle.cd_command.specs.declared.status.Status.TheVariants as status
+use Rattle.cd_command.specs.Untouched.{AreSame}
+use Rattle.cd_zero.specs.ZeroCall.{ZeroEnds}
+use Rattle.cd_upkeep.specs.CheckCall.{CheckEnds}
+use Rattle.cd_upkeep.specs.MigrateCall.{MigrateEnds}
+use Rattle.cd_top.specs.declared.work.Work.{Work}
+use Rattle.cd_top.specs.declared.work.Work.TheVariants as work
 use Rattle.cd_top.specs.FeedCall.{FeedEnds}
 
--- the words are the command `zero` without a database, and say this of the block's name
-abbrev pub IsZeroLine : ZeroName → List (List ℕ) → Type 0
-IsZeroLine name words = HasCommand words (command.Zero name.workchain name.file None)
+-- what a command asks for, over the keeper that its words name; none where its work isn't there yet
+abbrev pub work_by : Command → Option Work
+work_by (command.Zero workchain file db) = Some (work.Zero (record { workchain = workchain; file = file }))
+work_by (command.Check db) = Some work.Check
+work_by (command.Migrate db) = Some work.Migrate
+work_by (command.Gen number) = Some (work.Gen number)
+work_by (command.Replay db to) = None
+work_by (command.Run db to) = None
+work_by (command.Export id max db to) = None
 
--- the words are the command `gen`, and say this number of a feed
-abbrev pub IsGenLine : ℕ → List (List ℕ) → Type 0
-IsGenLine number words = HasCommand words (command.Gen number)
+-- the words are a command that asks for this
+abbrev pub IsLineOf : Work → List (List ℕ) → Type 0
+IsLineOf w words = (c : Command) × HasCommand words c × (work_by c ≡ Some w)
 
 -- why the words are not taken: they are no command, or a value in them is none that its option may have; or they are
 -- a command whose work isn't there yet, which is a usage fault too
-pub record IsNotTaken (words : List (List ℕ)) (fault : WordFault) : Type 0 where
-  pub cause : IsRefusal words fault ⊎ ((fault ≡ word.Usage) × (other : Command) × HasCommand words other)
-  pub no_zero : (name : ZeroName) → ¬ IsZeroLine name words
-  pub no_gen : (number : ℕ) → ¬ IsGenLine number words
+abbrev pub IsNotTaken : List (List ℕ) → WordFault → Type 0
+IsNotTaken words fault = IsRefusal words fault
+    ⊎ ((fault ≡ word.Usage) × (c : Command) × HasCommand words c × (work_by c ≡ None))
 
 -- the status for words that are refused
 abbrev pub status_by : WordFault → Status
@@ -44,12 +53,19 @@ EndsUntaken words status.Memory = Unit {0}
 EndsUntaken words _ = ⊥
 
 module _ (H : List ℕ → Hash256) {S O K X : Type 0} (s : SourceGhosts S) (o : SinkGhosts O) (k : KeeperGhosts K) where
-  -- how a call ends: a row for each command, and one for words that are not taken
-  pub record Ends (words : List (List ℕ)) (i j : S) (out out_after : O) (keeper keeper_after : K) (journal : List (Entry X))
-      (end : Status) : Type 0 where
-    pub zero : (name : ZeroName) → IsZeroLine name words
-        → ZeroEnds H s o k name i j out out_after keeper keeper_after journal end
-    pub gen : (number : ℕ) → IsGenLine number words
-        → FeedEnds o number out out_after end × (j ≡ i) × (keeper_after ≡ keeper) × (journal ≡ [])
-    pub other : ((name : ZeroName) → ¬ IsZeroLine name words) → ((number : ℕ) → ¬ IsGenLine number words)
-        → EndsUntaken words end × (j ≡ i) × AreSame out out_after keeper keeper_after journal
+  -- how a call ends that was asked for some work: a row for each command
+  abbrev pub WorkEnds : Work → S → S → O → O → K → K → List (Entry X) → Status → Type 0
+  WorkEnds (work.Zero name) i j out out_after keeper keeper_after journal end =
+      ZeroEnds H s o k name i j out out_after keeper keeper_after journal end
+  WorkEnds work.Check i j out out_after keeper keeper_after journal end =
+      CheckEnds H k o out out_after keeper keeper_after end × (j ≡ i) × (journal ≡ [])
+  WorkEnds work.Migrate i j out out_after keeper keeper_after journal end =
+      MigrateEnds H k o out out_after keeper keeper_after end × (j ≡ i) × (journal ≡ [])
+  WorkEnds (work.Gen number) i j out out_after keeper keeper_after journal end =
+      FeedEnds o number out out_after end × (j ≡ i) × (keeper_after ≡ keeper) × (journal ≡ [])
+
+  -- how a call ends: as the work that its words ask for; or, where the words are not taken, with nothing asked of the objects
+  abbrev pub Ends : List (List ℕ) → S → S → O → O → K → K → List (Entry X) → Status → Type 0
+  Ends words i j out out_after keeper keeper_after journal end =
+      ((w : Work) × IsLineOf w words × WorkEnds w i j out out_after keeper keeper_after journal end)
+      ⊎ (EndsUntaken words end × (j ≡ i) × AreSame out out_after keeper keeper_after journal)

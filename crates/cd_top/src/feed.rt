@@ -1,9 +1,8 @@
 ghost use Rattle.std.specs.Prelude.{◌≡◌, IfOk};
 ghost use Rattle.cd_top.specs.FeedCall.{text_of_feed, FeedEnds};
 
-use crate::printing::print;
-use crate::status::Status;
 use cd_base::{Memory, Sink};
+use cd_command::{Status, print};
 use cd_feed::write_feed;
 use cd_gen::make_feed;
 use std::alloc::Global;

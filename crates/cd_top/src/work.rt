@@ -1,36 +1,38 @@
-ghost use Rattle.std.specs.Prelude.{◌≡◌, ◌≢◌, ℕ, None, IfOk, IfErr, map, string_bytes};
-ghost use Rattle.cd_top.specs.declared.zero.ZeroName.{ZeroName};
+ghost use Rattle.std.specs.Prelude.{◌≡◌, MatchResult, Some, None, IfOk, IfErr, map, string_bytes};
 ghost use Rattle.cd_top.specs.Call as spec;
-ghost use Rattle.cd_top.specs.Call.{EndsUntaken};
-ghost use Rattle.cd_top.specs.Work.{command_of, IsLineOf};
+ghost use Rattle.cd_top.specs.Call.{EndsUntaken, IsLineOf, work_by};
 
-use crate::status::Status;
-use crate::zero::ZeroName;
-use cd_words::{Command, WordFault, read_words};
+use cd_command::{Status, WordFault};
+use cd_words::{Command, read_words};
+use cd_zero::ZeroName;
 use std::alloc::Global;
 
-/// What a call is to do.
+/// What a call is to do. Which keeper it is done over is the caller's matter.
 #[derive(Drop)]
 pub enum Work {
-    /// The command `zero` without a database, by what its words say of the block's name.
+    /// The command `zero`, by what its words say of the block's name.
     Zero(ZeroName),
+    /// The command `check`.
+    Check,
+    /// The command `migrate`.
+    Migrate,
     /// The command `gen`, by the number of the feed.
     Gen(u64),
 }
 
 /// What a command asks for, or the status of a call over a command whose work isn't there yet.
 fn work_in(command: Command) -> Result<Work, Status>
-    ensures found { IfOk result (λ work. command ≡ command_of work) }
-    ensures other { IfErr result (λ status. (status ≡ Status.Usage WordFault.Usage)
-        × ((name : ZeroName) → command ≢ Command.Zero name.workchain name.file None)
-        × ((number : ℕ) → command ≢ Command.Gen number)) }
+    ensures { MatchResult result (λ work. work_by command ≡ Some work)
+        (λ status. (status ≡ Status.Usage WordFault.Usage) × (work_by command ≡ None)) }
 {
     match command {
         Command::Zero {
             workchain,
             file,
-            db: None,
+            ..
         } => Ok(Work::Zero(ZeroName { workchain, file })),
+        Command::Check { .. } => Ok(Work::Check),
+        Command::Migrate { .. } => Ok(Work::Migrate),
         Command::Gen { number } => Ok(Work::Gen(number)),
         _ => Err(Status::Usage(WordFault::Usage)),
     }

@@ -1,11 +1,9 @@
-ghost use Rattle.std.specs.Prelude.{◌≡◌, IfSome};
-ghost use Rattle.cd_keeper.specs.Contents.{no_contents};
-
 use cd_base::{Hash256, MemorySink, MemorySource, Sink, Source, SteadySink, SteadySource};
 use cd_cell::Sha;
 use cd_event::{Entry, Event, Refusal, Reply};
 use cd_keeper::{KeepFault, Keeper, MemoryKeeper, SteadyKeeper};
-use cd_top::{Ended, Status, celldb_once};
+use cd_restart::ScanFault;
+use cd_top::{Ended, Status, TopRefusal, celldb_once};
 use std::alloc::Global;
 use std::test::Fail;
 
@@ -26,18 +24,44 @@ const EMPTY: Hash256 = Hash256([
 const EMPTY_LINES: &str =
     "id (-1,8000000000000000,0):96a296d224f285c67bee93c30f8a309157f0daa35dc5b87e410b78630a09cfc7:0000000000000000000000000000000000000000000000000000000000000000\ncells 1\n";
 
+/// A call of one word over these objects.
+fn call<S: Source, O: Sink, K: Keeper>(
+    alloc: Global,
+    word: &str,
+    input: &mut S,
+    out: &mut O,
+    keeper: K,
+) -> Result<Ended<K, Sha>, Fail> {
+    let mut words = Vec::new(alloc);
+    words.push(String::from_str(alloc, word)?)?;
+    Ok(celldb_once::<S, O, K, Sha>(alloc, &words, input, out, keeper))
+}
+
 /// The command `zero` over these objects.
 fn zero<S: Source, O: Sink, K: Keeper>(
     alloc: Global,
     input: &mut S,
     out: &mut O,
     keeper: K,
-) -> Result<Ended<K, Sha>, Fail>
-    requires { IfSome (K.held keeper) (λ contents. contents ≡ no_contents) }
-{
-    let mut words = Vec::new(alloc);
-    words.push(String::from_str(alloc, "zero")?)?;
-    Ok(celldb_once::<S, O, K, Sha>(alloc, &words, input, out, keeper))
+) -> Result<Ended<K, Sha>, Fail> {
+    call(alloc, "zero", input, out, keeper)
+}
+
+/// What a call of one word over a steady keeper and this input answers: the status, the output and the keeper.
+fn told(
+    alloc: Global,
+    word: &str,
+    input: &[u8],
+    keeper: SteadyKeeper,
+) -> Result<(Status, Vec<u8>, SteadyKeeper), Fail> {
+    let mut input = SteadySource::new(input.to_vec(alloc)?);
+    let mut out = SteadySink::new(alloc);
+    let Ended {
+        status,
+        keeper,
+        journal: _,
+    } = call(alloc, word, &mut input, &mut out, keeper)?;
+    Ok((status, out.taken().to_vec(alloc)?, keeper))
 }
 
 /// Whether the one entry is that of a zero state of so many listed cells, and was stored or refused for the keeper.
@@ -163,8 +187,8 @@ fn a_sink_that_fails_leaves_the_block_stored(rt: HostRuntime) -> Result<(), Fail
 #[test]
 fn a_keeper_that_fails_stores_nothing(rt: HostRuntime) -> Result<(), Fail> {
     let alloc = rt.alloc();
-    // It is asked for the one hash, and then for the batch.
-    for failing in 0..4 {
+    // The opening asks for a description and twice for a record, the core for the one hash, and then for the batch.
+    for failing in 0..7 {
         let mut input = SteadySource::new(ONE_CELL.to_vec(alloc)?);
         let mut out = SteadySink::new(alloc);
         let keeper = MemoryKeeper::new(alloc, [failing].to_vec(alloc)?);
@@ -173,15 +197,84 @@ fn a_keeper_that_fails_stores_nothing(rt: HostRuntime) -> Result<(), Fail> {
             mut keeper,
             journal,
         } = zero(alloc, &mut input, &mut out, keeper)?;
-        let failed = failing < 2;
+        let failed = failing < 5;
         assert!(rt; matches!(status, Status::KeeperFault) == failed);
         assert!(rt; matches!(status, Status::Ok) != failed);
-        assert!(rt; is_only_entry(&journal, 1, !failed));
+        assert!(rt; journal.is_empty() == (failing < 3));
+        assert!(rt; failing < 3 || is_only_entry(&journal, 1, !failed));
         assert!(rt; keeper.faults() == u64::from(failed));
         assert!(rt; keeper.batches() == u64::from(!failed));
         assert!(rt; out.taken().is_empty() == failed);
         let found = keeper.at(keeper.batches())?.is_some();
         assert!(rt; found);
     }
+    Ok(())
+}
+
+#[test]
+fn a_state_is_stored_once(rt: HostRuntime) -> Result<(), Fail> {
+    let alloc = rt.alloc();
+    let (status, _, keeper) = told(alloc, "zero", &ONE_CELL, SteadyKeeper::new(alloc))?;
+    assert!(rt; matches!(status, Status::Ok));
+    let (status, out, keeper) = told(alloc, "zero", &ONE_CELL, keeper)?;
+    let known = matches!(status, Status::Refused(TopRefusal::Core(Refusal::Known)));
+    assert!(rt; known && out.is_empty());
+    let (status, out, keeper) = told(alloc, "check", &[], keeper)?;
+    assert!(rt; matches!(status, Status::Ok));
+    assert!(rt; out.as_slice() == b"blocks 1\ncells 1\ncounts 1\n".as_slice());
+    assert!(rt; keeper.batches() == 1);
+    Ok(())
+}
+
+#[test]
+fn states_share_their_cells(rt: HostRuntime) -> Result<(), Fail> {
+    let alloc = rt.alloc();
+    let (_, _, keeper) = told(alloc, "zero", &FOUR_PLACES, SteadyKeeper::new(alloc))?;
+    let (status, out, keeper) = told(alloc, "check", &[], keeper)?;
+    assert!(rt; matches!(status, Status::Ok));
+    assert!(rt; out.as_slice() == b"blocks 1\ncells 2\ncounts 5\n".as_slice());
+    let (status, _, keeper) = told(alloc, "zero", &ONE_CELL, keeper)?;
+    assert!(rt; matches!(status, Status::Ok));
+    let (_, out, mut keeper) = told(alloc, "check", &[], keeper)?;
+    assert!(rt; out.as_slice() == b"blocks 2\ncells 2\ncounts 6\n".as_slice());
+    assert!(rt; has_cell(&mut keeper, &EMPTY, &[2, 0, 0, 0, 0, 0, 0, 0, 5, 0, 0])?);
+    Ok(())
+}
+
+#[test]
+fn damaged_stores_are_refused(rt: HostRuntime) -> Result<(), Fail> {
+    let alloc = rt.alloc();
+    for word in ["zero", "check", "migrate"] {
+        let mut keeper = SteadyKeeper::new(alloc);
+        keeper.put_raw_cell(EMPTY, [2, 0, 0, 0, 0, 0, 0, 0, 1, 0, 0].to_vec(alloc)?)?;
+        let (status, out, keeper) = told(alloc, word, &ONE_CELL, keeper)?;
+        let fault = ScanFault::Count {
+            hash: EMPTY,
+            stored: 1,
+            counted: 0,
+        };
+        let damaged = matches!(status, Status::Damaged(found) if found == fault);
+        assert!(rt; damaged && out.is_empty());
+        assert!(rt; keeper.batches() == 0);
+    }
+    Ok(())
+}
+
+#[test]
+fn records_of_the_first_version_are_rewritten(rt: HostRuntime) -> Result<(), Fail> {
+    let alloc = rt.alloc();
+    let (_, _, mut keeper) = told(alloc, "zero", &ONE_CELL, SteadyKeeper::new(alloc))?;
+    keeper.put_raw_cell(EMPTY, [1, 0, 0, 0, 1, 0, 0].to_vec(alloc)?)?;
+    let (status, out, keeper) = told(alloc, "check", &[], keeper)?;
+    assert!(rt; matches!(status, Status::Ok));
+    assert!(rt; out.as_slice() == b"blocks 1\ncells 1\ncounts 1\n".as_slice());
+    let (status, out, mut keeper) = told(alloc, "migrate", &[], keeper)?;
+    assert!(rt; matches!(status, Status::Ok));
+    assert!(rt; out.as_slice() == b"records 1\nrewritten 1\n".as_slice());
+    assert!(rt; has_cell(&mut keeper, &EMPTY, &[2, 0, 0, 0, 0, 0, 0, 0, 1, 0, 0])?);
+    assert!(rt; keeper.batches() == 2);
+    let (_, out, keeper) = told(alloc, "migrate", &[], keeper)?;
+    assert!(rt; out.as_slice() == b"records 1\nrewritten 0\n".as_slice());
+    assert!(rt; keeper.batches() == 2);
     Ok(())
 }

@@ -7,11 +7,10 @@ use Rattle.cd_base.specs.Counts.{Rose}
 use Rattle.cd_base.specs.Told.{Got, GotPart}
 use Rattle.cd_keeper.specs.declared.keeper.Keeper.{Ghosts as KeeperGhosts}
 use Rattle.cd_event.specs.declared.entry.Entry.{Entry}
-use Rattle.cd_top.specs.declared.status.Status.{Status}
-use Rattle.cd_top.specs.declared.status.Status.TheVariants as status
-use Rattle.cd_top.specs.StatusText.{code_of, line_of}
+use Rattle.cd_command.specs.declared.status.Status.{Status}
+use Rattle.cd_command.specs.StatusText.{code_of, line_of}
 use Rattle.cd_top.specs.Call.{Ends}
-use Rattle.cd_top.specs.ZeroCall.{HasGot, HasFailed}
+use Rattle.cd_command.specs.Printing.{TextEnds}
 
 -- the line of a status went out; where standard error failed, a part of it
 abbrev pub HasSaid : {E : Type 0} → SinkGhosts E → Status → E → E → Type 0
@@ -29,20 +28,12 @@ module _ (H : List ℕ → Hash256) {S O E K : Type 0} (s : SourceGhosts S) (o :
     pub coded : code ≡ code_of status
     pub said : HasSaid e status err err_after
 
-module _ {O : Type 0} (o : SinkGhosts O) where
-  -- how printing a page ends: it is out, or the sink failed, or memory ran out before its first byte
-  abbrev pub PageEnds : List ℕ → O → O → Status → Type 0
-  PageEnds text out out_after status.Ok = HasGot o text out out_after
-  PageEnds text out out_after status.WriteFault = HasFailed o text out out_after
-  PageEnds text out out_after status.Memory = out_after ≡ out
-  PageEnds text out out_after _ = ⊥
-
 module _ {S O E : Type 0} (s : SourceGhosts S) (o : SinkGhosts O) (e : SinkGhosts E) where
   -- a page was printed, and nothing was read
   pub record IsPage (i j : S) (out out_after : O) (err err_after : E) (code : ℕ) : Type 0 where
     pub status : Status
     pub text : List ℕ
-    pub printed : PageEnds o text out out_after status
+    pub printed : TextEnds o text out out_after status
     pub unread : j ≡ i
     pub coded : code ≡ code_of status
     pub said : HasSaid e status err err_after

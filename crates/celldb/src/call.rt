@@ -1,15 +1,16 @@
-ghost use Rattle.std.specs.Prelude.{◌≡◌, ◌≢◌, ℕ, List, None, IfSome, drop, map, string_bytes};
+ghost use Rattle.std.specs.Prelude.{◌≡◌, ◌≢◌, ℕ, List, None, IfOk, drop, map, option_map, string_bytes};
 ghost use Rattle.std.specs.Process.{exit_status};
-ghost use Rattle.cd_keeper.specs.Contents.{no_contents};
-ghost use Rattle.cd_top.specs.StatusText.{code_of};
+ghost use Rattle.cd_command.specs.Printing.{TextEnds};
+ghost use Rattle.cd_command.specs.StatusText.{code_of};
 ghost use Rattle.cd_words.specs.Pages.{page_of};
-ghost use Rattle.celldb.specs.Runs.{HasSaid, IsRun, IsPage, PageEnds};
+ghost use Rattle.celldb.specs.Databases.{IsDatabase, keeper_status, path_in};
+ghost use Rattle.celldb.specs.Runs.{HasSaid, IsRun, IsPage};
 
-use cd_base::{Sink, Source, write_all};
+use cd_base::{Memory, Sink, Source, write_all};
 use cd_cell::Hash32;
-use cd_keeper::Keeper;
+use cd_keeper::{KeepFault, Keeper};
 use cd_top::{Ended, Status, WordFault, celldb_once};
-use cd_words::{Page, page_of, page_text};
+use cd_words::{Command, Page, page_of, page_text, read_words};
 use std::alloc::Global;
 use std::io::ErrorKind;
 use std::process::ExitCode;
@@ -32,6 +33,43 @@ pub fn status_without_words(error: ErrorKind) -> Status {
     }
 }
 
+/// The status where a database can't be opened.
+pub fn status_of_keeper(fault: KeepFault) -> Status
+    ensures { result ≡ keeper_status fault }
+{
+    match fault {
+        KeepFault::Failed => Status::KeeperFault,
+        KeepFault::Memory => Status::Memory,
+    }
+}
+
+/// The path of the database that a command names.
+fn database_in(command: Command) -> Option<String>
+    ensures { option_map string_bytes result ≡ path_in command }
+{
+    match command {
+        Command::Zero { db, .. } => db,
+        Command::Replay { db, .. } => db,
+        Command::Run { db, .. } => db,
+        Command::Check { db } => db,
+        Command::Export { db, .. } => db,
+        Command::Gen { .. } => None,
+        Command::Migrate { db } => db,
+    }
+}
+
+/// The path of the database that words name by `--db`. Words that are no command name none.
+pub fn database_of(alloc: Global, words: &[String]) -> Result<Option<String>, Memory>
+    ensures { IfOk result (λ found. IsDatabase (map string_bytes words.now) (option_map string_bytes found)) }
+{
+    match read_words(alloc, words) {
+        Ok(command) => Ok(database_in(command)),
+        Err(WordFault::Memory) => Err(Memory),
+        Err(WordFault::Usage) => Ok(None),
+        Err(WordFault::BadValue { .. }) => Ok(None),
+    }
+}
+
 /// Prints the line of a status to standard error, and gives its number. Where standard error fails, the number tells
 /// all.
 pub fn end<E: Sink>(status: Status, err: &mut E) -> ExitCode
@@ -44,7 +82,7 @@ pub fn end<E: Sink>(status: Status, err: &mut E) -> ExitCode
 
 /// Prints a page to standard output.
 fn show<O: Sink>(alloc: Global, page: Page, out: &mut O) -> Status
-    ensures { (text : List ℕ) × PageEnds O.Sink text out.old out.new result }
+    ensures { (text : List ℕ) × TextEnds O.Sink text out.old out.new result }
 {
     match page_text(alloc, page) {
         Err(_) => Status::Memory,
@@ -65,7 +103,6 @@ pub fn run<S: Source, O: Sink, E: Sink, K: Keeper, H: Hash32>(
     err: &mut E,
     keeper: K,
 ) -> ExitCode
-    requires empty { IfSome (K.held keeper) (λ contents. contents ≡ no_contents) }
     ensures call { page_of (map string_bytes words.now) ≡ None
         → IsRun H.digest_of S.Source O.Sink E.Sink K.Keeper H (map string_bytes words.now)
         input.old input.new out.old out.new err.old err.new keeper (exit_status result) }

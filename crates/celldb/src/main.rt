@@ -3,10 +3,14 @@
 
 mod call;
 
-use crate::call::{end, run, status_without_words, words_behind_name};
+use crate::call::{
+    database_of, end, run, status_of_keeper, status_without_words, words_behind_name,
+};
 use cd_base::{StdSink, StdSource};
 use cd_cell::Sha;
 use cd_keeper::SteadyKeeper;
+use cd_keeper_sql::SqlKeeper;
+use cd_top::Status;
 use std::process::ExitCode;
 use std::rt::Env;
 use std::{env, io};
@@ -25,15 +29,26 @@ fn main(rt: HostRuntime) -> ExitCode {
     let mut input = StdSource::new(rt.reader());
     let mut out = StdSink::new(io::writer(&rt));
     let mut err = StdSink::new(rt.stderr());
-    match all_words(&rt) {
-        Ok(words) => run::<_, _, _, _, Sha>(
+    let words = match all_words(&rt) {
+        Ok(words) => words,
+        Err(error) => return end(status_without_words(error.kind()), &mut err),
+    };
+    let behind = words_behind_name(&words);
+    match database_of(alloc, behind) {
+        Ok(Some(path)) => match SqlKeeper::open(&rt, path.as_str()) {
+            Ok(keeper) => run::<_, _, _, _, Sha>(
+                alloc, behind, &mut input, &mut out, &mut err, keeper,
+            ),
+            Err(fault) => end(status_of_keeper(fault), &mut err),
+        },
+        Ok(None) => run::<_, _, _, _, Sha>(
             alloc,
-            words_behind_name(&words),
+            behind,
             &mut input,
             &mut out,
             &mut err,
             SteadyKeeper::new(alloc),
         ),
-        Err(error) => end(status_without_words(error.kind()), &mut err),
+        Err(_) => end(Status::Memory, &mut err),
     }
 }

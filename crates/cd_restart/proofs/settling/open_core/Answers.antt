@@ -56,6 +56,8 @@ returns-in-Ok-settle-clause-opened g c =
     record {
       journal = c.in-Ok-settle.ensures.journal;
       limited = is.limit ∙ c.adopt-core.ensures.limit;
+      begun = c.in-Ok-settle.ensures.begun (c.adopt-core.ensures.keeper.0 ∙ sym c.adopt-core.ensures.keeper.1);
+      steady = c.in-Ok-settle.ensures.cause.steady refl ∙ ap k.faults c.adopt-core.ensures.keeper.1 ∙ c.in-Ok.ensures.cause.steady;
       silent = λ none. is.silent (held ∙ none);
       told = subst (λ w. IfSome (k.held c.args.keeper) (λ contents. (w ≡ settled (world_of (blocks_in contents)))
           × IsSettledTo H k contents (settled (world_of (blocks_in contents))) (settling (world_of (blocks_in contents))) c.args.keeper now.keeper)) begun

@@ -1,9 +1,8 @@
 use Rattle.std.proofs.Common.{ℕ, List, subst, ◌∙◌}
 use Rattle.cd_base.specs.declared.sink.Sink.{Ghosts as SinkGhosts}
-use Rattle.cd_top.specs.declared.status.Status.{Status}
-use Rattle.cd_top.specs.declared.status.Status.TheVariants as status
-use Rattle.cd_top.specs.FeedCall.{TextEnds}
-use Rattle.cd_top.specs.ZeroCall.{PrintingEnds}
+use Rattle.cd_command.specs.declared.status.Status.{Status}
+use Rattle.cd_command.specs.declared.status.Status.TheVariants as status
+use Rattle.cd_command.specs.Printing.{PrintingEnds, TextEnds}
 use Rattle.cd_top.proofs.feed.print_feed.Goals as goal
 
 -- a text that was made ends as its printing does
@@ -13,6 +12,7 @@ as-text o text out out_after status.WriteFault done = done
 as-text o text out out_after status.Memory done = absurd done
 as-text o text out out_after (status.Usage fault) done = done
 as-text o text out out_after (status.BadInput fault) done = done
+as-text o text out out_after (status.Damaged fault) done = done
 as-text o text out out_after status.ReadFault done = done
 as-text o text out out_after status.KeeperFault done = done
 as-text o text out out_after (status.Refused refusal) done = done

@@ -1,0 +1,4 @@
+pub mod StatusText
+pub mod Printing
+pub mod Untouched
+pub mod Opening

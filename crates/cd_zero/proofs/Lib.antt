@@ -1,0 +1,4 @@
+pub mod FirstStores
+pub mod StoringLaws
+pub mod StateLaws
+pub mod ZeroLaws

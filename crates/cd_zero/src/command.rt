@@ -1,0 +1,38 @@
+ghost use Rattle.cd_zero.specs.ZeroCall.{ZeroEnds};
+
+use crate::limits::INPUT_LIMIT;
+use crate::name::ZeroName;
+use crate::preparing::prepared_of;
+use crate::storing::store;
+use cd_base::{ReadAllFault, Sink, Source, read_all};
+use cd_cell::Hash32;
+use cd_command::{Ended, InputFault, Status};
+use cd_keeper::Keeper;
+use std::alloc::Global;
+
+/// The command `zero`: reads a bag of cells to the end of the input, opens the store, stores the bag's state as a zero
+/// state of this name in one batch, and writes the block's name and the number of its cells. Nothing is opened before the
+/// input is found good.
+pub fn zero<S: Source, O: Sink, K: Keeper, H: Hash32>(
+    alloc: Global,
+    name: ZeroName,
+    input: &mut S,
+    out: &mut O,
+    keeper: K,
+) -> Ended<K, H>
+    ensures { ZeroEnds H.digest_of S.Source O.Sink K.Keeper name input.old input.new out.old out.new
+        keeper result.keeper result.journal.items result.status }
+{
+    let bytes = match read_all(alloc, input, INPUT_LIMIT) {
+        Ok(bytes) => bytes,
+        Err(ReadAllFault::Failed) => return Ended::of(alloc, Status::ReadFault, keeper),
+        Err(ReadAllFault::Long { limit }) => {
+            return Ended::of(alloc, Status::BadInput(InputFault::Long { limit }), keeper);
+        }
+        Err(ReadAllFault::Memory) => return Ended::of(alloc, Status::Memory, keeper),
+    };
+    match prepared_of::<H>(alloc, bytes) {
+        Ok(prepared) => store(alloc, name, prepared, out, keeper),
+        Err(status) => Ended::of(alloc, status, keeper),
+    }
+}

@@ -1,0 +1,12 @@
+//! The command `zero`: a bag is read, prepared, and stored as a zero state.
+#![tactic(auto)]
+
+mod command;
+mod limits;
+mod name;
+mod preparing;
+mod storing;
+
+pub use command::zero;
+pub use limits::INPUT_LIMIT;
+pub use name::ZeroName;
