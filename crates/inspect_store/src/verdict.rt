@@ -1,0 +1,86 @@
+ghost use Rattle.std.specs.Prelude.{◌≡◌, IfOk, IfSome};
+ghost use Rattle.cd_keeper.specs.Keeping.{KeepsHeld};
+ghost use Rattle.inspect_store.specs.StoreVerdicts.{IsTrueOfContents, IsOwnVerdict, HasVerdictCause};
+
+use cd_cell::Hash32;
+use cd_keeper::Keeper;
+use cd_restart::{Opened, ScanFault, scan};
+use std::alloc::{AllocError, Global};
+use std::fmt;
+
+/// What is said of a store.
+#[derive(Drop)]
+pub enum StoreVerdict {
+    /// It is one, and holds this.
+    Store(Opened),
+    /// It is none: the first thing that is wrong with it.
+    Refused(ScanFault),
+    /// The database refused: it is none, it is damaged, or it hasn't the tables of a store.
+    NoDatabase,
+}
+
+/// What is said of what a keeper holds, unless memory runs out. Nothing is written.
+pub fn verdict_of<K: Keeper, H: Hash32>(
+    alloc: Global,
+    keeper: &mut K,
+) -> Result<StoreVerdict, AllocError>
+    ensures said { IfOk result (λ verdict. IfSome (K.held keeper.old)
+        (λ contents. IsTrueOfContents H.digest_of contents verdict)) }
+    ensures own { IfOk result IsOwnVerdict }
+    ensures cause { IfOk result (HasVerdictCause (K.faults keeper.old) (K.faults keeper.new)) }
+    ensures keeps { KeepsHeld K.held K.trail K.batches keeper.old keeper.new }
+{
+    match scan::<K, H>(alloc, keeper) {
+        Ok(opened) => Ok(StoreVerdict::Store(opened)),
+        Err(ScanFault::Memory) => Err(AllocError),
+        Err(ScanFault::Keeper) => Ok(StoreVerdict::NoDatabase),
+        Err(fault) => Ok(StoreVerdict::Refused(fault)),
+    }
+}
+
+/// A description's key, as it is printed.
+struct Key<'a>(&'a [u8; 80]);
+
+impl fmt::Display for Key<'_> {
+    fn fmt<W: fmt::Write>(&self, f: &mut fmt::Formatter<W>) -> fmt::Result {
+        let mut text = [0; 160];
+        // Two digits a byte fill it.
+        let _ = hex::encode_to_slice(self.0, &mut text);
+        f.write_str(str::from_utf8(&text).unwrap())
+    }
+}
+
+/// A refusal with its fields; keys and hashes are in hexadecimal.
+fn write_fault<W: fmt::Write>(f: &mut fmt::Formatter<W>, fault: &ScanFault) -> fmt::Result {
+    match fault {
+        ScanFault::Desc { key } => write!(f, "Desc {{ key: {} }}", Key(key)),
+        ScanFault::Lineage { key } => write!(f, "Lineage {{ key: {} }}", Key(key)),
+        ScanFault::RootMissing { key, root } => {
+            write!(f, "RootMissing {{ key: {}, root: {root} }}", Key(key))
+        }
+        ScanFault::RootDepth { key, stated, real } => {
+            write!(
+                f,
+                "RootDepth {{ key: {}, stated: {stated}, real: {real} }}",
+                Key(key)
+            )
+        }
+        _ => write!(f, "{fault:?}"),
+    }
+}
+
+impl fmt::Display for StoreVerdict {
+    fn fmt<W: fmt::Write>(&self, f: &mut fmt::Formatter<W>) -> fmt::Result {
+        match self {
+            StoreVerdict::Store(opened) => write!(
+                f,
+                "ok blocks {} cells {} counts {}",
+                opened.blocks.len(),
+                opened.cells,
+                opened.counts
+            ),
+            StoreVerdict::Refused(fault) => write_fault(f, fault),
+            StoreVerdict::NoDatabase => f.write_str("not a database of a store"),
+        }
+    }
+}
