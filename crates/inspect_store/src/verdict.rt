@@ -39,6 +39,7 @@ pub fn verdict_of<K: Keeper, H: Hash32>(
 }
 
 /// A description's key, as it is printed.
+#[derive(Clone, Copy)]
 struct Key<'a>(&'a [u8; 80]);
 
 impl fmt::Display for Key<'_> {
@@ -50,8 +51,8 @@ impl fmt::Display for Key<'_> {
     }
 }
 
-/// A refusal with its fields; keys and hashes are in hexadecimal.
-fn write_fault<W: fmt::Write>(f: &mut fmt::Formatter<W>, fault: &ScanFault) -> fmt::Result {
+/// A refusal of a block with its fields; keys and hashes are in hexadecimal.
+fn write_block_fault<W: fmt::Write>(f: &mut fmt::Formatter<W>, fault: &ScanFault) -> fmt::Result {
     match fault {
         ScanFault::Desc { key } => write!(f, "Desc {{ key: {} }}", Key(key)),
         ScanFault::Lineage { key } => write!(f, "Lineage {{ key: {} }}", Key(key)),
@@ -69,13 +70,41 @@ fn write_fault<W: fmt::Write>(f: &mut fmt::Formatter<W>, fault: &ScanFault) -> f
     }
 }
 
+/// A refusal with its fields.
+fn write_fault<W: fmt::Write>(f: &mut fmt::Formatter<W>, fault: &ScanFault) -> fmt::Result {
+    match fault {
+        ScanFault::Record { hash, fault } => {
+            write!(f, "Record {{ hash: {hash}, fault: {fault:?} }}")
+        }
+        ScanFault::WrongKey { hash, real } => write!(
+            f,
+            "WrongKey {{ hash: {hash}, real: {real} }}"
+        ),
+        ScanFault::Missing { parent, child } => {
+            write!(f, "Missing {{ parent: {parent}, child: {child} }}")
+        }
+        ScanFault::ChildInfo { parent, child } => {
+            write!(f, "ChildInfo {{ parent: {parent}, child: {child} }}")
+        }
+        ScanFault::Count {
+            hash,
+            stored,
+            counted,
+        } => write!(
+            f,
+            "Count {{ hash: {hash}, stored: {stored}, counted: {counted} }}"
+        ),
+        fault => write_block_fault(f, fault),
+    }
+}
+
 impl fmt::Display for StoreVerdict {
     fn fmt<W: fmt::Write>(&self, f: &mut fmt::Formatter<W>) -> fmt::Result {
         match self {
             StoreVerdict::Store(opened) => write!(
                 f,
                 "ok blocks {} cells {} counts {}",
-                opened.blocks.len(),
+                opened.blocks.as_slice().len(),
                 opened.cells,
                 opened.counts
             ),
