@@ -1,6 +1,7 @@
 //! A database file and its log, which were read into memory.
 
-ghost use Rattle.std.specs.Prelude.{◌≡◌, IsTrue, IfOk};
+ghost use Rattle.std.specs.Prelude.{IsTrue, IfOk};
+ghost use Rattle.sqlite_disk.specs.Memory.{memory_is_usable};
 ghost use Rattle.inspect_store.specs.StoreVerdicts.{IsOwnVerdict};
 
 use crate::verdict::{StoreVerdict, verdict_of};
@@ -13,7 +14,7 @@ use std::alloc::{AllocError, Global};
 
 /// A file in memory that holds these bytes.
 fn file_of(alloc: Global, bytes: &[u8]) -> Result<Memory, AllocError>
-    ensures { IfOk result (λ file. IsTrue (Memory.Disk.is_usable file)) }
+    ensures { IfOk result (λ file. IsTrue (memory_is_usable file)) }
 {
     let mut file = Memory::new(alloc);
     match file.write_at(0, bytes) {
