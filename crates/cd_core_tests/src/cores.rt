@@ -18,10 +18,9 @@ use std::test::Fail;
 /// A core under the weak hash.
 pub(crate) type Weak = Core<Untold, WeakSum>;
 
-/// A core without blocks, over an empty keeper of which these calls fail.
-pub(crate) fn empty_core(alloc: Global, limit: u64, fails: Vec<u64>) -> Weak
-    requires { (1 ≤ limit) × (limit ≤ GREATEST_COUNT) }
-{
+/// A core without blocks, over an empty keeper of which these calls fail. The limit of counts is 1 at least.
+pub(crate) fn empty_core(alloc: Global, limit: u8, fails: Vec<u64>) -> Weak {
+    let limit = if limit == 0 { 1 } else { u64::from(limit) };
     Core::adopt(alloc, Untold::new(alloc, fails), Vec::new(alloc), limit)
 }
 

@@ -65,7 +65,7 @@ pub(crate) struct Held(
 /// Calls on a store without blocks whose counts have this limit, and what is held after each batch.
 #[derive(Clone, Copy)]
 pub(crate) struct Script {
-    pub(crate) limit: u64,
+    pub(crate) limit: u8,
     pub(crate) steps: &'static [Step],
     pub(crate) trail: &'static [Held],
 }
