@@ -279,6 +279,15 @@ pub(crate) fn has_trail(alloc: Global, keeper: &Untold, trail: &[Held]) -> Resul
     Ok(true)
 }
 
+/// The counts of cells, summed up.
+fn sum_of(cells: &[(u8, u64)]) -> u64 {
+    let mut sum = 0u64;
+    for cell in cells {
+        sum = sum.saturating_add(cell.1);
+    }
+    sum
+}
+
 /// Whether the totals after a script are those of what is held last.
 pub(crate) fn has_totals(alloc: Global, script: &Script) -> Result<bool, Fail> {
     let mut failed = 0;
@@ -288,14 +297,10 @@ pub(crate) fn has_totals(alloc: Global, script: &Script) -> Result<bool, Fail> {
     let Some(held) = script.trail.last() else {
         return Ok(false);
     };
-    let mut counts = 0u64;
-    for cell in held.0 {
-        counts = counts.saturating_add(cell.1);
-    }
     let due = Totals {
         blocks: held.1.len() as u64,
         cells: held.0.len() as u64,
-        counts,
+        counts: sum_of(held.0),
     };
     Ok(taken && totals == due)
 }
