@@ -9,13 +9,14 @@ use cd_cell::WeakSum;
 use cd_core::{Core, OneThread};
 use cd_event::{Refusal, Reply, Who};
 use cd_feed::{Bytes, Task};
-use cd_keeper::SteadyKeeper;
+use cd_keeper::MemoryKeeper;
 use cd_restart::open_core;
 use cd_run::{NoHoldup, Outcome, TaskRefusal, do_task};
+use cd_world::pins_of;
 use std::alloc::Global;
 use std::test::Fail;
 
-type TestCore = Core<SteadyKeeper, WeakSum>;
+type TestCore = Core<MemoryKeeper, WeakSum>;
 
 const WHOLE: u64 = 0x8000_0000_0000_0000;
 
@@ -126,7 +127,7 @@ fn store_merged(
     right: BlockId,
 ) -> Result<Outcome, Fail> {
     let job = Task::Merged {
-        id: block_id(WHOLE, 1, 9),
+        id: block_id(WHOLE, 1, 8),
         left,
         right,
         tops: BlockIds::from(Vec::new(alloc)),
@@ -159,18 +160,22 @@ fn has_replies(core: &TestCore, expected: &[&str]) -> bool {
     same
 }
 
-fn opened(rt: &HostRuntime) -> Result<TestCore, Fail> {
-    let alloc = rt.alloc();
-    match open_core::<SteadyKeeper, WeakSum>(alloc, SteadyKeeper::new(alloc), 1000) {
-        Ok(core) => Ok(core),
-        Err(_) => Err(Fail::new("not opened")),
+/// A core over an empty keeper whose calls of these numbers fail, or none where its opening failed.
+fn opened(alloc: Global, fails: Vec<u64>) -> Option<TestCore> {
+    open_core::<MemoryKeeper, WeakSum>(alloc, MemoryKeeper::new(alloc, fails), 1000).ok()
+}
+
+fn steady(alloc: Global) -> Result<TestCore, Fail> {
+    match opened(alloc, Vec::new(alloc)) {
+        Some(core) => Ok(core),
+        None => Err(Fail::new("not opened")),
     }
 }
 
 #[test]
 fn a_block_over_a_state_and_its_refusals(rt: HostRuntime) -> Result<(), Fail> {
     let alloc = rt.alloc();
-    let mut core = opened(&rt)?;
+    let mut core = steady(alloc)?;
     let no_parent = store_block(alloc, &mut core, update_bag(alloc)?)?;
     assert!(rt; no_parent == Outcome::Refused(TaskRefusal::UnknownBlock));
     let state = store_state(alloc, &mut core, block_id(WHOLE, 0, 3), 1)?;
@@ -203,7 +208,7 @@ fn a_block_over_a_state_and_its_refusals(rt: HostRuntime) -> Result<(), Fail> {
 #[test]
 fn a_block_over_two_states_and_its_refusals(rt: HostRuntime) -> Result<(), Fail> {
     let alloc = rt.alloc();
-    let mut core = opened(&rt)?;
+    let mut core = steady(alloc)?;
     let left = block_id(LEFT, 0, 3);
     let right = block_id(RIGHT, 0, 4);
     store_state(alloc, &mut core, left, 1)?;
@@ -225,5 +230,40 @@ fn a_block_over_two_states_and_its_refusals(rt: HostRuntime) -> Result<(), Fail>
         "unpinned", "pinned", "pinned", "stored",
     ];
     assert!(rt; has_replies(&core, &replies));
+    Ok(())
+}
+
+/// A block over a state and one over two states, where a call of the keeper may fail: whether they leave no pin, and
+/// none is refused but by the keeper or for a parent that it didn't store.
+fn leaves_no_pin(alloc: Global, core: &mut TestCore) -> Result<bool, Fail> {
+    let left = block_id(LEFT, 0, 3);
+    let right = block_id(RIGHT, 0, 4);
+    store_state(alloc, core, block_id(WHOLE, 0, 3), 1)?;
+    store_state(alloc, core, left, 1)?;
+    store_state(alloc, core, right, 2)?;
+    let block = store_block(alloc, core, update_bag(alloc)?)?;
+    let merged = store_merged(alloc, core, left, right)?;
+    Ok(pins_of(core.world(), 0) == 0 && may_end(block) && may_end(merged))
+}
+
+fn may_end(end: Outcome) -> bool {
+    match end {
+        Outcome::Block { new, .. } => new == 1,
+        Outcome::Merged { new, .. } => new == 1,
+        Outcome::Refused(TaskRefusal::Keeper) => true,
+        Outcome::Refused(TaskRefusal::UnknownBlock) => true,
+        _ => false,
+    }
+}
+
+#[test]
+fn a_failing_keeper_leaves_no_pin(rt: HostRuntime) -> Result<(), Fail> {
+    let alloc = rt.alloc();
+    for call in 0..60 {
+        if let Some(mut core) = opened(alloc, vec![in alloc; call]?) {
+            let good = leaves_no_pin(alloc, &mut core)?;
+            assert!(rt; good);
+        }
+    }
     Ok(())
 }
