@@ -1,5 +1,5 @@
 -- Inner: what the task of a block over two parents does by its pins, stage by stage.
-use Rattle.std.specs.Prelude.{◌≡◌, ◌⊎◌, ℕ, Bool, false, ◌==◌, List, [], ◌∷◌, slice_get, Option, Some, Result, Ok, Err}
+use Rattle.std.specs.Prelude.{◌≡◌, ◌⊎◌, ℕ, Bool, false, ◌==◌, List, [], ◌∷◌, slice_get, Option, Some, None, Result, Ok, Err}
 use Rattle.cd_base.specs.declared.hash.Hash256.{Hash256}
 use Rattle.cd_base.specs.declared.answers.Memory.{Memory}
 use Rattle.cd_block.specs.declared.block.BlockId.{BlockId}
@@ -55,6 +55,12 @@ module _ {S H : Type 0} (digest : List ℕ → Hash256) (worker faults : S → �
 abbrev pub KeepsFaces : List (Option FaceView) → List (Option FaceView) → Type 0
 KeepsFaces before now =
     (k : ℕ) (face : FaceView) → slice_get before k ≡ Some (Some face) → slice_get now k ≡ Some (Some face)
+
+-- where nothing was found stands what was found elsewhere
+abbrev pub FillsFaces : List (Option FaceView) → List (Option FaceView) → List (Option FaceView) → Type 0
+FillsFaces before others now =
+    (k : ℕ) (found : Option FaceView) → slice_get before k ≡ Some None → slice_get others k ≡ Some found
+    → slice_get now k ≡ Some found
 
 -- ---- entries under both pins
 

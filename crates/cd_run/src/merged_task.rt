@@ -8,7 +8,7 @@ ghost use Rattle.cd_feed.specs.Feeds.{IsTopsFit};
 ghost use Rattle.cd_run.specs.Runs.{Did};
 ghost use Rattle.cd_run.specs.Stages.{Stage};
 ghost use Rattle.cd_run.specs.Merging.{named_as};
-ghost use Rattle.cd_run.specs.Joining.{ArePinned, PinsBoth, UnpinsBoth, KeepsFaces, PreparesBoth, JoinsBy};
+ghost use Rattle.cd_run.specs.Joining.{ArePinned, PinsBoth, UnpinsBoth, KeepsFaces, FillsFaces, PreparesBoth, JoinsBy};
 
 use crate::gather::gather;
 use crate::holdup::Holdup;
@@ -77,7 +77,8 @@ fn let_both_go<T: Turns>(turns: &mut T, who: Who, parents: &Parents) -> Result<(
 
 /// Puts what was found elsewhere where nothing was found here.
 fn fill(faces: &mut [Option<Face>], others: &[Option<Face>])
-    ensures { KeepsFaces faces.old faces.new }
+    ensures keeps { KeepsFaces faces.old faces.new }
+    ensures fills { FillsFaces faces.old others.now faces.new }
 {
     for place in 0..faces.len().min(others.len()) {
         if faces[place].is_none() {

@@ -39,7 +39,7 @@ returns-in-Err-gather-2 g c a b are =
 pub returns-in-Ok-prepare_merged : goal.returns-in-Ok-prepare_merged
 returns-in-Ok-prepare_merged g c a b are =
     let held = rw c.deref.ensures.value at c.in-Ok-gather.ensures.faces in
-    let keeps = rw c.deref_mut.ensures.value at c.fill.ensures in
+    let keeps = rw c.deref_mut.ensures.value at c.fill.ensures.keeps in
     let seen : c.deref-4.result.now ≡ c.fill.new.faces =
     c.deref-4.ensures.value ∙ written_is c.in-Ok-gather.faces.len c.in-Ok-gather.faces.items c.fill.new.faces c.in-Ok-gather.faces.ok.0 (c.fill.auto.faces ∙ ap length c.deref_mut.ensures.value) in
     stage_then g.T.Turns.worker g.T.Turns.faults g.T.Turns.made g.T.Turns.goes g.T.Turns.named g.met.T.Turns.further [] [] (OnlyLooks c.args.who c.args.parents.now.left.pin) (OnlyLooks c.args.who c.args.parents.now.right.pin) _ c.args.turns.now c.gather.new.turns c.gather-2.new.turns c.in-Ok-gather.ensures.looks c.in-Ok-gather-2.ensures.looks
@@ -52,7 +52,7 @@ returns-in-Ok-prepare_merged g c a b are =
 pub returns : goal.returns
 returns g c a b are =
     let held = rw c.deref.ensures.value at c.in-Ok-gather.ensures.faces in
-    let keeps = rw c.deref_mut.ensures.value at c.fill.ensures in
+    let keeps = rw c.deref_mut.ensures.value at c.fill.ensures.keeps in
     let seen : c.deref-4.result.now ≡ c.fill.new.faces =
     c.deref-4.ensures.value ∙ written_is c.in-Ok-gather.faces.len c.in-Ok-gather.faces.items c.fill.new.faces c.in-Ok-gather.faces.ok.0 (c.fill.auto.faces ∙ ap length c.deref_mut.ensures.value) in
     rw c.stop_of_prepare.ensures
