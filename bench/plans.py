@@ -18,7 +18,7 @@ import tempfile
 
 TOP = pathlib.Path(__file__).resolve().parent.parent
 STORED, STATE = 100_000, 1_023
-LIBRARIES = "cd_base cd_boc_read cd_cell cd_count cd_keeper cd_prepare cd_record cd_update inspect_lines inspect_updates"
+LIBRARIES = "cd_base cd_block cd_boc_read cd_cell cd_count cd_keeper cd_prepare cd_record cd_update inspect_lines inspect_updates"
 PROGRAM = """//! Plans updates over a store in memory.
 #![tactic(auto)]
 
@@ -26,7 +26,7 @@ use cd_base::{StdSource, read_all};
 use cd_boc_read::read_bag;
 use cd_cell::{Bag, Prepared, Sha};
 use cd_count::{Plan, plan_add};
-use cd_keeper::{Keeper, SteadyKeeper};
+use cd_keeper::{Batch, Keeper, SteadyKeeper};
 use cd_prepare::{prepare_update, prepare_zero};
 use cd_record::GREATEST_COUNT;
 use cd_update::Update;
@@ -49,14 +49,19 @@ fn bag_of(alloc: Global, line: &[u8]) -> Option<Bag<Sha>> {
     read_bag::<Sha>(alloc, &bytes).ok()
 }
 
-fn planned(alloc: Global, keeper: &mut SteadyKeeper, value: &Prepared<Sha>) -> Option<Plan> {
+fn planned<'a>(alloc: Global, keeper: &mut SteadyKeeper, value: &'a Prepared<Sha>) -> Option<Plan<'a>> {
     plan_add(alloc, keeper, value, GREATEST_COUNT).ok()
+}
+
+/// The batch of a plan alone.
+fn batch_of(alloc: Global, plan: Plan) -> Option<Batch> {
+    plan.into_batch(alloc, Vec::new(alloc), Vec::new(alloc)).ok()
 }
 
 /// Stores a state's cells.
 fn store(alloc: Global, keeper: &mut SteadyKeeper, value: &Prepared<Sha>) -> Option<()> {
     let plan = planned(alloc, keeper, value)?;
-    let batch = plan.into_batch(alloc, Vec::new(alloc), Vec::new(alloc)).ok()?;
+    let batch = batch_of(alloc, plan)?;
     keeper.apply(&batch).ok()
 }
 
@@ -85,7 +90,7 @@ fn done(alloc: Global, input: &[u8], work: Work) -> Option<u64> {
         if work != Work::Prepare {
             let plan = planned(alloc, &mut keeper, &value)?;
             if work == Work::Batch {
-                plan.into_batch(alloc, Vec::new(alloc), Vec::new(alloc)).ok()?;
+                batch_of(alloc, plan)?;
             }
         }
         count = count.saturating_add(1);
@@ -110,23 +115,48 @@ fn main(rt: HostRuntime) -> ExitCode {
     }
 }
 """
+# What `into_batch` asks: no description is named twice, since none is named.
+PROOF = """use Rattle.std.proofs.Common.{List, [], map, ◌++◌, sym, subst₂}
+use Rattle.std.specs.List.{IsDistinct}
+use Rattle.std.specs.Map.{keys_of}
+use Rattle.cd_block.specs.declared.block.BlockId.{BlockId}
+use Rattle.cd_block.specs.declared.description.Descr.{Descr}
+use Rattle.cd_block.specs.Block.{key_of}
+use Rattle.cd_keeper.specs.NoKeyTwice.{same_key}
+use Rattle.cd_count.specs.PlanRows.{descr_puts}
+use Rattle.NAME.proofs.batch_of.Goals as goal
+
+no_keys : IsDistinct same_key []
+unfolding IsDistinct
+no_keys = tt
+
+pub into_batch-requires-clause-once : goal.into_batch-requires-clause-once
+into_batch-requires-clause-once c =
+    subst₂ (λ (gone : List BlockId) (come : List Descr). IsDistinct same_key (map key_of gone ++ keys_of (descr_puts come)))
+    (sym c.new-2.ensures.items) (sym c.new.ensures.items) no_keys
+"""
 
 
-def built(folder):
-    """The program, built in a copy of the repository."""
+def files_of(name, program, **others):
+    """The files of a program that makes batches by `batch_of`."""
+    return {"src/main.rt": program, "proofs/batch_of/Answers.antt": PROOF.replace("NAME", name), **others}
+
+
+def built(folder, name, files, libraries):
+    """A program of these files, built in a copy of the repository."""
     crates = pathlib.Path(folder) / "crates"
     shutil.copytree(TOP / "crates", crates, ignore=shutil.ignore_patterns("out"))
-    source = crates / "plan_bench/src"
-    source.mkdir(parents=True)
-    (source / "main.rt").write_text(PROGRAM)
-    (crates.parent / "crates.txt").write_text((TOP / "crates.txt").read_text() + f"plan_bench: {LIBRARIES}\n")
+    for file, text in files.items():
+        (crates / name / file).parent.mkdir(parents=True, exist_ok=True)
+        (crates / name / file).write_text(text)
+    (crates.parent / "crates.txt").write_text((TOP / "crates.txt").read_text() + f"{name}: {libraries}\n")
     shutil.copy(TOP / "HANDLES", crates.parent)
     subprocess.run(["git", "init", "-q", folder], check=True)
-    run = subprocess.run(["rt", "run"], cwd=crates / "plan_bench", stdin=subprocess.DEVNULL, capture_output=True, text=True)
-    program = crates / "plan_bench/out/plan_bench"
-    if not program.exists():
+    run = subprocess.run(["rt", "run"], cwd=crates / name, stdin=subprocess.DEVNULL, capture_output=True, text=True)
+    made = crates / name / "out" / name
+    if not made.exists():
         sys.exit(f"the program isn't built: {run.stdout[-2000:]}{run.stderr[-2000:]}")
-    return str(program)
+    return str(made)
 
 
 def make(updates):
@@ -157,11 +187,12 @@ def main():
     words.add_argument("--times", type=int, default=7)
     given = words.parse_args()
     with tempfile.TemporaryDirectory() as folder, make(given.updates) as lines:
-        program = built(folder)
+        program = built(folder, "plan_bench", files_of("plan_bench", PROGRAM), LIBRARIES)
         kinds = ("prepare", "plan", "batch")
         runs = [[seconds(program, kind, lines.name) for kind in kinds] for _ in range(given.times)]
     prepare, plan, batch = (1e6 * min(times) / given.updates for times in zip(*runs))
     print(f"a plan of 191 new cells: {plan - prepare:.0f} microseconds of the processor, and its batch {batch - plan:.0f}")
 
 
-main()
+if __name__ == "__main__":
+    main()

@@ -101,7 +101,7 @@ fn apply_without<K: Keeper>(
     id: BlockId,
 ) -> Result<(), UnpinFault>
     requires { IsBlockId id }
-    ensures done { OnOk result ((change : Change) × IsDropOf plan id change
+    ensures done { OnOk result ((change : Change) × IsDropOf plan.entry id change
         × IsApplied K.held K.trail K.batches change keeper.old keeper.new) }
     ensures undone { OnErr result (KeepsHeld K.held K.trail K.batches keeper.old keeper.new) }
     ensures cause { RisesOnly (is_keeper_fault result) (K.faults keeper.old) (K.faults keeper.new) }
@@ -123,7 +123,7 @@ fn plan_without<K: Keeper, H: Hash32>(
     alloc: Global,
     keeper: &mut K,
     root: &Hash256,
-) -> Result<Plan, UnpinFault>
+) -> Result<Plan<'static>, UnpinFault>
     ensures dropped { IfOk result (λ plan. (t : ToldWorld) (left : trees.World) (block : Block)
         → Holds K.held H.digest_of t keeper.old
         → (let all = shown t in AreTogether H.digest_of left.blocks (block ∷ []) all.blocks)
@@ -159,7 +159,7 @@ fn unpin_fault(fault: &CountFault) -> UnpinFault
 /// The batch of a plan that drops one description.
 fn batch_without(alloc: Global, plan: Plan, id: BlockId) -> Result<Batch, Memory>
     requires { IsBlockId id }
-    ensures { IfOk result (IsDropOf plan id) }
+    ensures { IfOk result (IsDropOf plan.entry id) }
 {
     let mut ids = Vec::new(alloc);
     ids.push(id)?;

@@ -192,7 +192,7 @@ fn plan_going<K: Keeper, H: Hash32>(
     alloc: Global,
     keeper: &mut K,
     roots: &[Hash256],
-) -> Result<Plan, KeepFault>
+) -> Result<Plan<'static>, KeepFault>
     ensures dropped { IfOk result (λ plan. (t : ToldWorld) (left : trees.World) (gone : List Block)
         → Holds K.held H.digest_of t keeper.old
         → (let all = shown t in AreTogether H.digest_of left.blocks gone all.blocks)

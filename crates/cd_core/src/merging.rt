@@ -192,13 +192,13 @@ fn store_without<K: Keeper, H: Hash32>(
     requires once { IsDistinct same_key (map key_of going.ids.items ++ key_of descr.id ∷ []) }
     ensures world { OnOk result (world.new ≡ with_block world.old descr) }
     ensures made { OnOk result ((after : Rows)
-        × IsDropping K.held H.digest_of keeper.old plan going.roots.items after
+        × IsDropping K.held H.digest_of keeper.old plan.entry going.roots.items after
         × IsPlanMade K.held K.trail K.batches after descr going.ids.items keeper.old keeper.new) }
     ensures still { OnErr result (world.new ≡ world.old) }
     ensures undone { OnErr result (KeepsHeld K.held K.trail K.batches keeper.old keeper.new) }
     ensures cause { HasKeepCause (K.faults keeper.old) (K.faults keeper.new) result }
     ensures quiet { going.roots.items ≡ [] → K.reads keeper.new ≡ K.reads keeper.old }
-    ensures reads { IsDropRead K.held H.digest_of keeper.old plan going.roots.items
+    ensures reads { IsDropRead K.held H.digest_of keeper.old plan.entry going.roots.items
         (K.reads keeper.old) (K.reads keeper.new) }
 {
     match plan_ended::<K, H>(alloc, keeper, plan, going.roots.as_slice()) {
@@ -208,18 +208,18 @@ fn store_without<K: Keeper, H: Hash32>(
 }
 
 /// The plan by which a block comes, once blocks with these roots go. Reads nothing where none does.
-fn plan_ended<K: Keeper, H: Hash32>(
+fn plan_ended<'a, K: Keeper, H: Hash32>(
     alloc: Global,
     keeper: &mut K,
-    plan: Plan,
+    plan: Plan<'a>,
     roots: &[Hash256],
-) -> Result<Plan, KeepFault>
+) -> Result<Plan<'a>, KeepFault>
     ensures dropped { IfOk result (λ after.
-        IsDropping K.held H.digest_of keeper.old plan roots.now after) }
+        IsDropping K.held H.digest_of keeper.old plan.entry roots.now after) }
     ensures keeps { KeepsHeld K.held K.trail K.batches keeper.old keeper.new }
     ensures cause { HasKeepCause (K.faults keeper.old) (K.faults keeper.new) result }
     ensures quiet { roots.now ≡ [] → K.reads keeper.new ≡ K.reads keeper.old }
-    ensures reads { IsDropRead K.held H.digest_of keeper.old plan roots.now
+    ensures reads { IsDropRead K.held H.digest_of keeper.old plan.entry roots.now
         (K.reads keeper.old) (K.reads keeper.new) }
 {
     if roots.is_empty() {

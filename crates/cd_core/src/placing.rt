@@ -121,16 +121,16 @@ fn block_place(blocks: &[Descr], id: &BlockId) -> usize
 }
 
 /// The plan by which a state's block comes, over the states of some blocks.
-pub(crate) fn plan_state<K: Keeper, H: Hash32>(
+pub(crate) fn plan_state<'a, K: Keeper, H: Hash32>(
     alloc: Global,
     keeper: &mut K,
     world: &World,
     id: &BlockId,
     parents: &[BlockId],
     tops: &BlockIds,
-    prepared: &Prepared<H>,
+    prepared: &'a Prepared<H>,
     limit: u64,
-) -> Result<Plan, CountFault>
+) -> Result<Plan<'a>, CountFault>
     requires limit { limit ≤ GREATEST_COUNT }
     requires tops { MayName id.now tops.now }
     requires free { block_at world.now id.now ≡ None }
@@ -168,7 +168,7 @@ pub(crate) fn store_block<K: Keeper>(
     requires once { IsDistinct same_key (map key_of gone.items ++ key_of descr.id ∷ []) }
     ensures world { OnOk result (world.new ≡ with_block world.old descr) }
     ensures made { OnOk result (IsPlanMade K.held K.trail K.batches
-        plan descr gone.items keeper.old keeper.new) }
+        plan.entry descr gone.items keeper.old keeper.new) }
     ensures still { OnErr result (world.new ≡ world.old) }
     ensures undone { OnErr result (KeepsHeld K.held K.trail K.batches keeper.old keeper.new) }
     ensures cause { HasKeepCause (K.faults keeper.old) (K.faults keeper.new) result }
@@ -194,7 +194,7 @@ pub(crate) fn store_block<K: Keeper>(
 fn batch_with(alloc: Global, plan: Plan, descr: &Descr, gone: Vec<BlockId>) -> Result<Batch, Memory>
     requires fit { IsDescrFit descr.now }
     requires once { IsDistinct same_key (map key_of gone.items ++ key_of descr.now.id ∷ []) }
-    ensures cells { IfOk result (λ batch. IsCellBatch plan batch) }
+    ensures cells { IfOk result (λ batch. IsCellBatch plan.entry batch) }
     ensures puts { IfOk result (λ batch. batch.put_descs ≡ descr_puts (descr.now ∷ [])) }
     ensures drops { IfOk result (λ batch. batch.drop_descs ≡ map key_of gone.items) }
     ensures bytes { IfOk result (λ batch. AreOfBytes batch.put_cells) }

@@ -65,15 +65,15 @@ module _ (stored : List ℕ → Option Record) where
       → ((q : Hash256) → tree.get hash_cmp rows' q ≡ cond (is_eq (hash_cmp hash q)) (Some r') (tree.get hash_cmp rows q)) → AreGiven stored rows (hash.0 ∷ []) rows'
   given-there rows rows' hash r r' there is updates = given-one rows rows' hash r r' (ap (λ (o : Option Row). option_or o (option_map first_row (stored hash.0))) there) is updates
 
-  pub given-read : (rows rows' : RowMap) (hash : Hash256) (found : Record) (r' : Row) → tree.get hash_cmp rows hash ≡ None → Some found ≡ stored hash.0
-      → r' ≡ record (first_row found) { count = found.count + 1 }
+  pub given-read : (rows rows' : RowMap) (hash : Hash256) (found r' : Row) → tree.get hash_cmp rows hash ≡ None → Some found ≡ option_map first_row (stored hash.0)
+      → r' ≡ record found { count = found.count + 1 }
       → ((q : Hash256) → tree.get hash_cmp rows' q ≡ cond (is_eq (hash_cmp hash q)) (Some r') (tree.get hash_cmp rows q)) → AreGiven stored rows (hash.0 ∷ []) rows'
   given-read rows rows' hash found r' none is raise updates =
-      given-one rows rows' hash (first_row found) r' (ap (λ (o : Option Row). option_or o (option_map first_row (stored hash.0))) none ∙ ap (option_map first_row) (sym is)) raise updates
+      given-one rows rows' hash found r' (ap (λ (o : Option Row). option_or o (option_map first_row (stored hash.0))) none ∙ sym is) raise updates
 
-  pub given-lost : (rows rows' : RowMap) (hash : Hash256) → tree.get hash_cmp rows hash ≡ None → None ≡ stored hash.0 → rows' ≡ rows → AreGiven stored rows (hash.0 ∷ []) rows'
+  pub given-lost : (rows rows' : RowMap) (hash : Hash256) → tree.get hash_cmp rows hash ≡ None → None ≡ option_map first_row (stored hash.0) → rows' ≡ rows → AreGiven stored rows (hash.0 ∷ []) rows'
   given-lost rows rows' hash none is same =
-      let row : row_at stored rows hash.0 ≡ None = ap (λ (o : Option Row). option_or o (option_map first_row (stored hash.0))) none ∙ ap (option_map first_row) (sym is) in
+      let row : row_at stored rows hash.0 ≡ None = ap (λ (o : Option Row). option_or o (option_map first_row (stored hash.0))) none ∙ sym is in
       let unknown : known_in stored rows hash.0 ≡ false = ap (λ (o : Option Row). is_some (option_map fixed_part o)) row in
       record {
         counts = ap (count_at stored) same ∙ ap (λ b. cond b (give_one (count_at stored rows) hash.0) (count_at stored rows)) (sym unknown);

@@ -104,18 +104,18 @@ module _ (rows rows' : RowMap) (hash : Hash256) (dead dead' : List Hash256) wher
       (ap (λ (o : Option Row). option_or o (option_map first_row (stored hash.0))) there)
       (ap fixed_part lower) (ap (λ (r : Row). r.count) lower) dead dead' named
 
-  pub taken-read : (stored : List ℕ → Option Record) (found : Record) (row' : Row) → tree.get hash_cmp rows hash ≡ None → Some found ≡ stored hash.0
+  pub taken-read : (stored : List ℕ → Option Record) (found row' : Row) → tree.get hash_cmp rows hash ≡ None → Some found ≡ option_map first_row (stored hash.0)
       → ((q : Hash256) → tree.get hash_cmp rows' q ≡ cond (is_eq (hash_cmp hash q)) (Some row') (tree.get hash_cmp rows q))
-      → row' ≡ record (first_row found) { count = found.count - 1 } → dead' ≡ with_last found.count dead hash → IsTaken stored rows dead hash.0 rows' dead'
+      → row' ≡ record found { count = found.count - 1 } → dead' ≡ with_last found.count dead hash → IsTaken stored rows dead hash.0 rows' dead'
   taken-read stored found row' none is updates lower named =
-      taken-set stored rows rows' hash row' updates (first_row found)
-      (ap (λ (o : Option Row). option_or o (option_map first_row (stored hash.0))) none ∙ ap (option_map first_row) (sym is))
+      taken-set stored rows rows' hash row' updates found
+      (ap (λ (o : Option Row). option_or o (option_map first_row (stored hash.0))) none ∙ sym is)
       (ap fixed_part lower) (ap (λ (r : Row). r.count) lower) dead dead' named
 
-  pub taken-nothing : (stored : List ℕ → Option Record) → tree.get hash_cmp rows hash ≡ None → None ≡ stored hash.0 → rows' ≡ rows → IsTaken stored rows dead hash.0 rows' dead
+  pub taken-nothing : (stored : List ℕ → Option Record) → tree.get hash_cmp rows hash ≡ None → None ≡ option_map first_row (stored hash.0) → rows' ≡ rows → IsTaken stored rows dead hash.0 rows' dead
   taken-nothing stored none is same =
       taken-none stored rows rows' (λ q. ap (λ (m : RowMap). tree.get hash_cmp m q) same) hash.0 dead
-      (ap (λ (o : Option Row). option_or o (option_map first_row (stored hash.0))) none ∙ ap (option_map first_row) (sym is))
+      (ap (λ (o : Option Row). option_or o (option_map first_row (stored hash.0))) none ∙ sym is)
 
 module _ {X : Type 0} where
   pub if_some : (P : X → Type 0) (o : Option X) → ((x : X) → P x) → IfSome o P

@@ -8,4 +8,5 @@ pub mod PlanRows
 pub mod PlanSteps
 pub mod PlanWorlds
 pub mod Reading
+pub mod RowFaces
 pub mod SoundContents

@@ -18,9 +18,13 @@ use Rattle.cd_count.specs.declared.rows.Row.{Row}
 use Rattle.cd_count.specs.Changes.{Rows}
 use Rattle.cd_count.specs.PlanSteps.{RowMap, first_row, kid_bytes, row_at, count_of_row, count_at, fixed_at}
 
+-- the row of a cell of which nothing is stored
+abbrev pub new_row : FaceView → Row
+new_row face = record { stored = None; count = 0; face = face }
+
 -- the row of a listed cell before anything changes
 abbrev pub listed_row : Option Record → FaceView → Row
-listed_row None face = record { stored = None; count = 0; face = face }
+listed_row None face = new_row face
 listed_row (Some r) face = first_row r
 
 -- another face is stored than the one that is listed

@@ -27,6 +27,7 @@ use crate::rows::{Row, Rows};
 use cd_base::Hash256;
 use cd_cell::NewCell;
 use cd_keeper::Keeper;
+use std::alloc::Global;
 
 /// The cell with the lesser hash.
 fn lesser<'a>(cell: &'a NewCell, other: Option<&'a NewCell>) -> &'a NewCell
@@ -46,7 +47,8 @@ fn lesser<'a>(cell: &'a NewCell, other: Option<&'a NewCell>) -> &'a NewCell
 
 /// Makes the rows of listed cells, and gives the one with the least hash under which another is stored.
 pub fn list_cells<'a, K: Keeper>(
-    rows: &mut Rows,
+    alloc: Global,
+    rows: &mut Rows<'a>,
     keeper: &mut K,
     cells: &'a [NewCell],
 ) -> Result<Option<&'a NewCell>, CountFault>
@@ -67,7 +69,7 @@ pub fn list_cells<'a, K: Keeper>(
     while place > 0 {
         place -= 1;
         let cell = &cells[place];
-        if list_cell(rows, keeper, cell)? {
+        if list_cell(alloc, rows, keeper, cell)? {
             least = Some(lesser(cell, least));
         }
     }
@@ -80,7 +82,7 @@ pub fn clash_of(rows: &Rows, cell: &NewCell) -> CountFault
         (option_map_or (λ row. row.face) (tree.get hash_cmp rows.now cell.now.hash) cell.now.face) cell.now.face }
 {
     let stored = match rows.get(&cell.hash) {
-        Some(row) => row.face,
+        Some(row) => *row.face.get(),
         None => cell.face,
     };
     CountFault::Clash {
@@ -113,8 +115,9 @@ pub fn check_limit(rows: &Rows, limit: u64) -> Result<(), CountFault>
 }
 
 /// The rows once a block with the value's tree comes.
-pub fn add_rows<K: Keeper>(
-    rows: &mut Rows,
+pub fn add_rows<'a, K: Keeper>(
+    alloc: Global,
+    rows: &mut Rows<'a>,
     keeper: &mut K,
     cells: &[NewCell],
     root: &Hash256,
@@ -130,7 +133,7 @@ pub fn add_rows<K: Keeper>(
     ensures cause { HasCountCause (K.faults keeper.old) (K.faults keeper.new) result }
     ensures outside { IfErr result IsOutside }
 {
-    give_all_kids(rows, keeper, cells)?;
-    give_reference(rows, keeper, root)?;
+    give_all_kids(alloc, rows, keeper, cells)?;
+    give_reference(alloc, rows, keeper, root)?;
     Ok(())
 }

@@ -1,41 +1,44 @@
 //! How the rows of a plan change as a block comes.
 
 ghost use Rattle.std.specs.Prelude.{◌≡◌, ◌+◌, ◌*◌, ◌≤◌, [], ◌∷◌, map, length, IfSome, IfOk, IfErr, OnOk};
+ghost use Rattle.std.specs.Option.{unwrap_or};
 ghost use Rattle.cd_cell.specs.Fit.{IsFaceFit};
 ghost use Rattle.cd_keeper.specs.Shown.{hash_bytes};
 ghost use Rattle.cd_keeper.specs.Keeping.{KeepsHeld};
 ghost use Rattle.cd_count.specs.Reading.{stored_in, HasCountCause};
 ghost use Rattle.cd_count.specs.PlanRows.{rows_of};
 ghost use Rattle.cd_count.specs.PlanSteps.{fixed_at};
-ghost use Rattle.cd_count.specs.PlanGiving.{listed_row, is_another, due_kids, due_of, AreRowsGood, IsListed, AreGiven};
+ghost use Rattle.cd_count.specs.PlanGiving.{new_row, is_another, due_kids, due_of, AreRowsGood, IsListed, AreGiven};
 ghost use Rattle.cd_count.specs.Clashes.{IsOutside};
 
 use crate::count_fault::CountFault;
-use crate::rows::{Row, Rows, first_row, kid_hashes, read_record};
+use crate::row_face::RowFace;
+use crate::rows::{Row, Rows, kid_hashes, read_row};
 use cd_base::{Hash256, Memory};
 use cd_cell::NewCell;
 use cd_keeper::Keeper;
-use cd_record::Record;
+use std::alloc::Global;
 
 /// The row of a listed cell before anything changes.
-fn listed_row(found: Option<Record>, cell: &NewCell) -> Row
-    ensures { result ≡ listed_row found cell.now.face }
+fn listed_row<'a>(found: Option<Row<'a>>, cell: &'a NewCell) -> Row<'a>
+    ensures { result ≡ unwrap_or found.entry (new_row cell.now.face) }
 {
     match found {
-        Some(record) => first_row(record),
+        Some(row) => row,
         None => Row {
             stored: None,
             count: 0,
-            face: cell.face,
+            face: RowFace::listed(&cell.face),
         },
     }
 }
 
 /// Makes the row of a listed cell. Tells whether another cell is stored under its hash.
-pub fn list_cell<K: Keeper>(
-    rows: &mut Rows,
+pub fn list_cell<'a, K: Keeper>(
+    alloc: Global,
+    rows: &mut Rows<'a>,
     keeper: &mut K,
-    cell: &NewCell,
+    cell: &'a NewCell,
 ) -> Result<bool, CountFault>
     requires { IsFaceFit cell.now.face }
     ensures listed { OnOk result (IfSome (K.held keeper.old) (λ contents.
@@ -48,9 +51,9 @@ pub fn list_cell<K: Keeper>(
     ensures cause { HasCountCause (K.faults keeper.old) (K.faults keeper.new) result }
     ensures outside { IfErr result IsOutside }
 {
-    let found = read_record(keeper, &cell.hash)?;
+    let found = read_row(alloc, keeper, &cell.hash)?;
     let row = listed_row(found, cell);
-    let clashes = row.face != cell.face;
+    let clashes = *row.face.get() != cell.face;
     rows.insert(cell.hash, row)?;
     Ok(clashes)
 }
@@ -67,8 +70,9 @@ fn raise(row: &mut Row) -> Result<(), Memory>
 }
 
 /// Gives a hash one reference more, where it is listed or stored.
-pub fn give_reference<K: Keeper>(
-    rows: &mut Rows,
+pub fn give_reference<'a, K: Keeper>(
+    alloc: Global,
+    rows: &mut Rows<'a>,
     keeper: &mut K,
     hash: &Hash256,
 ) -> Result<(), CountFault>
@@ -83,18 +87,18 @@ pub fn give_reference<K: Keeper>(
     if let Some(row) = rows.get_mut(hash) {
         return Ok(raise(row)?);
     }
-    let Some(record) = read_record(keeper, hash)? else {
+    let Some(mut row) = read_row(alloc, keeper, hash)? else {
         return Ok(());
     };
-    let mut row = first_row(record);
     raise(&mut row)?;
     rows.insert(*hash, row)?;
     Ok(())
 }
 
 /// Gives each hash one reference more.
-fn give_references<K: Keeper>(
-    rows: &mut Rows,
+fn give_references<'a, K: Keeper>(
+    alloc: Global,
+    rows: &mut Rows<'a>,
     keeper: &mut K,
     hashes: &[Hash256],
 ) -> Result<(), CountFault>
@@ -107,13 +111,18 @@ fn give_references<K: Keeper>(
     ensures outside { IfErr result IsOutside }
 {
     for hash in hashes {
-        give_reference(rows, keeper, hash)?;
+        give_reference(alloc, rows, keeper, hash)?;
     }
     Ok(())
 }
 
 /// Gives the children of a listed cell one reference for each place, unless the cell is stored already.
-fn give_kids<K: Keeper>(rows: &mut Rows, keeper: &mut K, cell: &NewCell) -> Result<(), CountFault>
+fn give_kids<'a, K: Keeper>(
+    alloc: Global,
+    rows: &mut Rows<'a>,
+    keeper: &mut K,
+    cell: &NewCell,
+) -> Result<(), CountFault>
     ensures given { OnOk result (IfSome (K.held keeper.old) (λ contents. AreGiven (stored_in contents) rows.old
         (due_kids (fixed_at (stored_in contents) rows.old cell.now.hash.0) cell.now.face) rows.new)) }
     ensures keeps { KeepsHeld K.held K.trail K.batches keeper.old keeper.new }
@@ -129,12 +138,13 @@ fn give_kids<K: Keeper>(rows: &mut Rows, keeper: &mut K, cell: &NewCell) -> Resu
         return Ok(());
     }
     let (kids, refs) = kid_hashes(&cell.face);
-    give_references(rows, keeper, &kids[..refs])
+    give_references(alloc, rows, keeper, &kids[..refs])
 }
 
 /// Gives the children of all listed cells that aren't stored one reference for each place.
-pub fn give_all_kids<K: Keeper>(
-    rows: &mut Rows,
+pub fn give_all_kids<'a, K: Keeper>(
+    alloc: Global,
+    rows: &mut Rows<'a>,
     keeper: &mut K,
     cells: &[NewCell],
 ) -> Result<(), CountFault>
@@ -147,7 +157,7 @@ pub fn give_all_kids<K: Keeper>(
     ensures outside { IfErr result IsOutside }
 {
     for cell in cells {
-        give_kids(rows, keeper, cell)?;
+        give_kids(alloc, rows, keeper, cell)?;
     }
     Ok(())
 }

@@ -6,6 +6,7 @@ mod count_fault;
 mod giving;
 mod laws;
 mod plan;
+mod row_face;
 mod rows;
 
 pub use count_fault::CountFault;

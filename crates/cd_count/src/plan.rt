@@ -48,11 +48,11 @@ type Puts = Vec<(Hash256, Vec<u8>)>;
 /// How the counts of stored cells change: for each hash that was looked at, in the order of the hashes, the count that
 /// is stored, the one to be, and the face.
 #[derive(Drop)]
-pub struct Plan {
-    rows: Rows,
+pub struct Plan<'a> {
+    rows: Rows<'a>,
 }
 
-impl Model for Plan {
+impl<'a> Model for Plan<'a> {
     ghost use Rattle.cd_count.specs.Changes as changes;
     ghost use Rattle.cd_count.specs.PlanRows.{rows_of, AreRowsFit};
 
@@ -63,9 +63,9 @@ impl Model for Plan {
     ghost invariant = { λ p. AreRowsFit (rows_of p.rows.entries) };
 }
 
-impl Plan {
+impl<'a> Plan<'a> {
     /// The plan that changes nothing. Takes no memory.
-    pub fn empty(alloc: Global) -> Plan
+    pub fn empty(alloc: Global) -> Plan<'a>
         ensures empty { result ≡ [] }
         ensures added { (H : List ℕ → Hash256) (world : World) → AreClashFree H (states world.blocks)
             → AreAdded H world world [] [] result }
@@ -85,8 +85,8 @@ impl Plan {
     ) -> Result<Batch, Memory>
         requires fit { AllByRecursion IsDescrFit put_descs.items }
         requires once { IsDistinct same_key (map key_of drop_descs.items ++ keys_of (descr_puts put_descs.items)) }
-        ensures once { plans.HasNoKeyTwice (slice_cmp nat_cmp) self }
-        ensures cells { IfOk result (λ batch. IsCellBatch self batch) }
+        ensures once { plans.HasNoKeyTwice (slice_cmp nat_cmp) self.entry }
+        ensures cells { IfOk result (λ batch. IsCellBatch self.entry batch) }
         ensures bytes { IfOk result (λ batch. AreOfBytes batch.put_cells) }
         ensures puts { IfOk result (λ batch. batch.put_descs ≡ descr_puts put_descs.items) }
         ensures drops { IfOk result (λ batch. batch.drop_descs ≡ map key_of drop_descs.items) }
@@ -147,7 +147,7 @@ fn change_cell(
     if row.stored == Some(row.count) {
         return Ok(());
     }
-    let text = encode_cell(alloc, row.count, &row.face)?;
+    let text = encode_cell(alloc, row.count, row.face.get())?;
     tell_bytes(text.as_slice());
     puts.push((*hash, text))?;
     Ok(())
@@ -185,12 +185,12 @@ fn keys_of(alloc: Global, ids: &[BlockId]) -> Result<Vec<[u8; 80]>, Memory>
 /// The counts once a block with the value's tree comes. Each listed cell is compared with what is stored; a cell that
 /// is stored already adds nothing to its children, and a new one adds one to each of its child places. Reads at most
 /// `5n + 1` records for n listed cells.
-pub fn plan_add<K: Keeper, H: Hash32>(
+pub fn plan_add<'a, K: Keeper, H: Hash32>(
     alloc: Global,
     keeper: &mut K,
-    prepared: &Prepared<H>,
+    prepared: &'a Prepared<H>,
     limit: u64,
-) -> Result<Plan, CountFault>
+) -> Result<Plan<'a>, CountFault>
     requires { limit ≤ GREATEST_COUNT }
     ensures added { IfOk result (λ plan. IfSome (K.held keeper.old) (λ contents.
         (old : ToldWorld) (grown : World) (block : Block) (listed : List Tree)
@@ -212,11 +212,11 @@ pub fn plan_add<K: Keeper, H: Hash32>(
 {
     let cells = prepared.cells();
     let mut rows = BTreeMap::new(alloc);
-    if let Some(cell) = list_cells(&mut rows, keeper, cells)? {
+    if let Some(cell) = list_cells(alloc, &mut rows, keeper, cells)? {
         return Err(clash_of(&rows, cell));
     }
     let root = prepared.root().rep();
-    add_rows(&mut rows, keeper, cells, &root)?;
+    add_rows(alloc, &mut rows, keeper, cells, &root)?;
     // Tells that the hashes are in order.
     let _ = rows.len();
     check_limit(&rows, limit)?;
@@ -226,20 +226,20 @@ pub fn plan_add<K: Keeper, H: Hash32>(
 /// The plan's counts once blocks with these roots go, one for each time that a root stands here. A cell whose count
 /// falls to nothing takes one reference from each of its child places, and goes. The plan is empty, or one that
 /// `plan_add` gave. Whatever it answers, it reads at most `4k + r` records for r roots and k cells that go.
-pub fn plan_drop<K: Keeper>(
+pub fn plan_drop<'a, K: Keeper>(
     alloc: Global,
     keeper: &mut K,
-    plan: Plan,
+    plan: Plan<'a>,
     roots: &[Hash256],
-) -> Result<Plan, CountFault>
+) -> Result<Plan<'a>, CountFault>
     ensures dropped { IfOk result (λ after. IfSome (K.held keeper.old) (λ contents.
         (H : List ℕ → Hash256) (old : ToldWorld) (grown left : World) (come gone : List Block) (news : List Tree)
-        → AreSoundContents H old contents → AreAdded H (shown old) grown come news plan
+        → AreSoundContents H old contents → AreAdded H (shown old) grown come news plan.entry
         → AreTogether H left.blocks gone grown.blocks → map (rep_bytes H) (states gone) ≡ map hash_bytes roots.now
         → (dead : List Tree) × AreCounted H (shown old) grown left come gone news dead after)) }
     ensures reads { IfSome (K.held keeper.old) (λ contents.
         (H : List ℕ → Hash256) (old : ToldWorld) (grown left : World) (come gone : List Block) (news dead : List Tree)
-        → AreSoundContents H old contents → AreAdded H (shown old) grown come news plan
+        → AreSoundContents H old contents → AreAdded H (shown old) grown come news plan.entry
         → AreTogether H left.blocks gone grown.blocks → map (rep_bytes H) (states gone) ≡ map hash_bytes roots.now
         → AreDeadCells H grown.blocks gone dead
         → K.reads keeper.new ≤ K.reads keeper.old + (4 * length dead + length roots.now)) }
@@ -255,9 +255,9 @@ pub fn plan_drop<K: Keeper>(
 }
 
 /// Takes away the references of roots, and those of each cell that has none left.
-fn drop_roots<K: Keeper>(
+fn drop_roots<'a, K: Keeper>(
     alloc: Global,
-    rows: &mut Rows,
+    rows: &mut Rows<'a>,
     keeper: &mut K,
     roots: &[Hash256],
 ) -> Result<Vec<Hash256>, CountFault>
@@ -278,11 +278,11 @@ fn drop_roots<K: Keeper>(
     ensures outside { IfErr result IsOutside }
 {
     let mut dead = Vec::new(alloc);
-    take_references(rows, keeper, &mut dead, roots)?;
+    take_references(alloc, rows, keeper, &mut dead, roots)?;
     let mut next = 0;
     while next < dead.len() {
         let hash = dead[next];
-        take_kids(rows, keeper, &mut dead, &hash)?;
+        take_kids(alloc, rows, keeper, &mut dead, &hash)?;
         next += 1;
     }
     Ok(dead)

@@ -25,7 +25,8 @@ use Rattle.cd_run.specs.declared.outcome.TaskRefusal.{TaskRefusal}
 use Rattle.cd_run.specs.declared.outcome.TaskRefusal.TheVariants as word
 use Rattle.cd_run.specs.Words.{word_of, update_word, prepare_word}
 use Rattle.cd_run.specs.Prepared.{HasNoState, HasNoUpdate, no_bag, no_state, no_bag_of_update, no_update}
-use Rattle.cd_run.specs.Runs.{has_failed, unpinned_as, read_end, ZeroRun, ExpireRun, UnmergedRun, BlockRun, UnjoinedRun, MergedRun, WalkRun, ReadRun, TaskRun, TaskAnswers, both_looks, zero_unprepared, zero_stored, zero_refused, expired, expire_refused, old_unseen, unprepared, unmerged, block_unread, parent_not_pinned, block_stored, block_refused, left_unseen, right_unseen, not_joined, join_refused, merged_unread, left_not_pinned, right_not_pinned, merged_stored, merged_refused, reached, no_child, cell_unseen, read_not_pinned, read_walked}
+use Rattle.cd_run.specs.Runs.{has_failed, unpinned_as, let_go_end, ZeroRun, ExpireRun, UnmergedRun, BlockRun, UnjoinedRun, MergedRun, LooksRun, PinRun, IsFewFor, IsAnyNumber, TaskRun, TaskAnswers, both_looks, zero_unprepared, zero_stored, zero_refused, expired, expire_refused, old_unseen, unprepared, unmerged, block_unread, parent_not_pinned, block_stored, block_refused, left_unseen, right_unseen, not_joined, join_refused, merged_unread, left_not_pinned, right_not_pinned, merged_stored, merged_refused, looked, look_failed, block_not_pinned, let_go}
+use Rattle.cd_run.specs.Finds.{ReadFinds, SliceFinds, ServeFinds}
 use Rattle.cd_run.proofs.StageLaws.{failed_first, failed_last}
 
 abbrev pub word_in : Outcome → TaskRefusal
@@ -132,29 +133,28 @@ module _ {H : Type 0} (digest : List ℕ → Hash256) (who : Who) where
   of_merged pins id left right tops bag es end (merged_refused u m n rest why first second a b c run is d) bad =
       moved es _ is (failed_first rest _ (of_unjoined m n u id tops rest why run (same_word end why d bad)))
 
-  of_walk : (m : Named) (path : List ℕ) (es : List (Entry H)) (found : Result Hash256 TaskRefusal) → WalkRun digest who m path es found → found ≡ Err word.Keeper → has_failed es ≡ true
-  of_walk m path es found (reached asked hash few a is b) same = let no = sym b ∙ same in cc
-  of_walk m path es found (no_child asked at few a is b) same = let no = sym b ∙ same in cc
-  of_walk m path es found (cell_unseen asked last few is a) same = moved es _ is (failed_last (looks who m.number asked) (failed_look who m.number last ∷ []) refl)
+  module _ (Few : ℕ → Type 0) (Finds : Option Tree → Outcome → Type 0) (never : (told : Option Tree) → Finds told (outcome.Refused word.Keeper) → ⊥) where
+    of_work : (m : Named) (es : List (Entry H)) (end : Outcome) → LooksRun Few Finds who m es end → end ≡ outcome.Refused word.Keeper → has_failed es ≡ true
+    of_work m es end (looked asked few a is) bad = absurd (never m.tree (subst (Finds m.tree) bad a))
+    of_work m es end (look_failed asked last few is a) bad = moved es _ is (failed_last (looks who m.number asked) (failed_look who m.number last ∷ []) refl)
 
-  -- of a walk, and the unpin behind it
-  of_end : (m : Named) (path : List ℕ) (es : List (Entry H)) (found : Result Hash256 TaskRefusal) (answer : Option Bool) → WalkRun digest who m path es found
-      → read_end found answer ≡ outcome.Refused word.Keeper → has_failed (es ++ unpinned_as who m.number answer ∷ []) ≡ true
-  of_end m path es (Err why) answer run same = failed_first es _ (of_walk m path es (Err why) run (ap (λ v. Err v) (ap word_in same)))
-  of_end m path es (Ok hash) None run same = failed_last es _ refl
-  of_end m path es (Ok hash) (Some collected) run same = cc
+    -- of the work under a pin, and the unpin behind it
+    of_end : (m : Named) (es : List (Entry H)) (found : Outcome) (answer : Option Bool) → LooksRun Few Finds who m es found
+        → let_go_end found answer ≡ outcome.Refused word.Keeper → has_failed (es ++ unpinned_as who m.number answer ∷ []) ≡ true
+    of_end m es found (Some collected) run bad = failed_first es _ (of_work m es found run bad)
+    of_end m es found None run bad = failed_last es (unpinned_as who m.number None ∷ []) refl
 
-  of_read : (pins : List Named) (id : BlockId) (path : List ℕ) (es : List (Entry H)) (end : Outcome) → ReadRun digest pins who id path es end → end ≡ outcome.Refused word.Keeper → has_failed es ≡ true
-  of_read pins id path es end (read_not_pinned r why is c d) bad = one es _ is r why refl c (same_word end why d bad)
-  of_read pins id path es end (read_walked m rest found answer a run is b) bad = moved es _ is (of_end m path rest found answer run (sym b ∙ bad))
+    of_pin : (pins : List Named) (id : BlockId) (es : List (Entry H)) (end : Outcome) → PinRun Few Finds pins who id es end → end ≡ outcome.Refused word.Keeper → has_failed es ≡ true
+    of_pin pins id es end (block_not_pinned r why is c d) bad = one es _ is r why refl c (same_word end why d bad)
+    of_pin pins id es end (let_go m rest found answer a run is b) bad = moved es _ is (of_end m rest found answer run (sym b ∙ bad))
 
   of_run : (pins : List Named) (job : Task) (es : List (Entry H)) (end : Outcome) → TaskRun digest pins who job es end → end ≡ outcome.Refused word.Keeper → has_failed es ≡ true
   of_run pins (task.Zero id tops bag) es end run bad = of_zero id tops bag es end run bad
   of_run pins (task.Block id parent tops bag) es end run bad = of_block pins id parent tops bag es end run bad
   of_run pins (task.Expire id) es end run bad = of_expire id es end run bad
-  of_run pins (task.Read id path) es end run bad = of_read pins id path es end run bad
-  of_run pins (task.Slice id max) es end run bad = absurd run
-  of_run pins (task.Serve id max) es end run bad = absurd run
+  of_run pins (task.Read id path) es end run bad = of_pin (IsFewFor path) (ReadFinds digest path) (λ told no. no) pins id es end run bad
+  of_run pins (task.Slice id max) es end run bad = of_pin IsAnyNumber (SliceFinds digest max) (λ told no. no) pins id es end run bad
+  of_run pins (task.Serve id max) es end run bad = of_pin IsAnyNumber (ServeFinds digest) (λ told no. no) pins id es end run bad
   of_run pins (task.Merged id left right tops bag) es end run bad = of_merged pins id left right tops bag es end run bad
 
   pub keeper_failed : (pins : List Named) (job : Task) (es : List (Entry H)) (result : Result Outcome Memory) → TaskAnswers digest pins who job es result

@@ -6,6 +6,9 @@ pub mod StageLaws
 pub mod KeeperLaws
 pub mod CallLaws
 pub mod PreparingLaws
+pub mod PinLaws
+pub mod CutLaws
+pub mod SentLaws
 mod TurnLaws
 mod FaceLaws
 mod UpdateLaws

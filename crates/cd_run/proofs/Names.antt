@@ -1,5 +1,5 @@
 -- All entries of a task have its name.
-use Rattle.std.proofs.Common.{◌≡◌, ℕ, List, [], ◌∷◌, ◌++◌, All, Result, refl, sym, subst}
+use Rattle.std.proofs.Common.{◌≡◌, ℕ, List, [], ◌∷◌, ◌++◌, All, Option, refl, sym, subst}
 use Rattle.std.proofs.lemmas.List.Elements.{All-nil, All-cons, All-append}
 use Rattle.cd_base.specs.declared.hash.Hash256.{Hash256}
 use Rattle.cd_block.specs.declared.block.BlockId.{BlockId}
@@ -13,7 +13,8 @@ use Rattle.cd_feed.specs.declared.feed.Task.{Task}
 use Rattle.cd_feed.specs.declared.feed.Task.TheVariants as task
 use Rattle.cd_run.specs.declared.outcome.Outcome.{Outcome}
 use Rattle.cd_run.specs.declared.outcome.TaskRefusal.{TaskRefusal}
-use Rattle.cd_run.specs.Runs.{ZeroRun, ExpireRun, UnmergedRun, BlockRun, UnjoinedRun, MergedRun, WalkRun, ReadRun, TaskRun, TaskEvents, both_looks, zero_unprepared, zero_stored, zero_refused, expired, expire_refused, old_unseen, unprepared, unmerged, block_unread, parent_not_pinned, block_stored, block_refused, left_unseen, right_unseen, not_joined, join_refused, merged_unread, left_not_pinned, right_not_pinned, merged_stored, merged_refused, reached, no_child, cell_unseen, read_not_pinned, read_walked}
+use Rattle.cd_run.specs.Runs.{ZeroRun, ExpireRun, UnmergedRun, BlockRun, UnjoinedRun, MergedRun, LooksRun, PinRun, IsFewFor, IsAnyNumber, TaskRun, TaskEvents, both_looks, zero_unprepared, zero_stored, zero_refused, expired, expire_refused, old_unseen, unprepared, unmerged, block_unread, parent_not_pinned, block_stored, block_refused, left_unseen, right_unseen, not_joined, join_refused, merged_unread, left_not_pinned, right_not_pinned, merged_stored, merged_refused, looked, look_failed, block_not_pinned, let_go}
+use Rattle.cd_run.specs.Finds.{ReadFinds, SliceFinds, ServeFinds}
 
 module _ {H : Type 0} (digest : List ℕ → Hash256) (who : Who) where
   abbrev pub IsOf : Entry H → Type 0
@@ -86,22 +87,22 @@ module _ {H : Type 0} (digest : List ℕ → Hash256) (who : Who) where
   of_merged pins id left right tops bag es end (merged_refused u m n rest why first second a b c run is d) =
       pinned_and es _ _ is refl (All-cons IsOf _ _ refl (and_two rest _ _ (of_unjoined m n u id tops rest why run) refl refl))
 
-  of_walk : (m : Named) (path : List ℕ) (es : List (Entry H)) (found : Result Hash256 TaskRefusal) → WalkRun digest who m path es found → All IsOf es
-  of_walk m path es found (reached asked hash few a is b) = only es _ is (of_looks m.number asked)
-  of_walk m path es found (no_child asked at few a is b) = only es _ is (of_looks m.number asked)
-  of_walk m path es found (cell_unseen asked last few is a) = only es _ is (and_last _ _ (of_looks m.number asked) refl)
+  module _ (Few : ℕ → Type 0) (Finds : Option Tree → Outcome → Type 0) where
+    of_work : (m : Named) (es : List (Entry H)) (end : Outcome) → LooksRun Few Finds who m es end → All IsOf es
+    of_work m es end (looked asked few a is) = only es _ is (of_looks m.number asked)
+    of_work m es end (look_failed asked last few is a) = only es _ is (and_last _ _ (of_looks m.number asked) refl)
 
-  of_read : (pins : List Named) (id : BlockId) (path : List ℕ) (es : List (Entry H)) (end : Outcome) → ReadRun digest pins who id path es end → All IsOf es
-  of_read pins id path es end (read_not_pinned r why is a b) = one es _ is refl
-  of_read pins id path es end (read_walked m rest found answer a run is b) = pinned_and es _ _ is refl (and_last rest _ (of_walk m path rest found run) refl)
+    of_pin : (pins : List Named) (id : BlockId) (es : List (Entry H)) (end : Outcome) → PinRun Few Finds pins who id es end → All IsOf es
+    of_pin pins id es end (block_not_pinned r why is a b) = one es _ is refl
+    of_pin pins id es end (let_go m rest found answer a run is b) = pinned_and es _ _ is refl (and_last rest _ (of_work m rest found run) refl)
 
   pub of_run : (pins : List Named) (job : Task) (es : List (Entry H)) (end : Outcome) → TaskRun digest pins who job es end → All IsOf es
   of_run pins (task.Zero id tops bag) es end run = of_zero id tops bag es end run
   of_run pins (task.Block id parent tops bag) es end run = of_block pins id parent tops bag es end run
   of_run pins (task.Expire id) es end run = of_expire id es end run
-  of_run pins (task.Read id path) es end run = of_read pins id path es end run
-  of_run pins (task.Slice id max) es end run = absurd run
-  of_run pins (task.Serve id max) es end run = absurd run
+  of_run pins (task.Read id path) es end run = of_pin (IsFewFor path) (ReadFinds digest path) pins id es end run
+  of_run pins (task.Slice id max) es end run = of_pin IsAnyNumber (SliceFinds digest max) pins id es end run
+  of_run pins (task.Serve id max) es end run = of_pin IsAnyNumber (ServeFinds digest) pins id es end run
   of_run pins (task.Merged id left right tops bag) es end run = of_merged pins id left right tops bag es end run
 
   pub of_events : (pins : List Named) (job : Task) (es : List (Entry H)) → TaskEvents digest pins who job es → All IsOf es

@@ -1,6 +1,8 @@
 pub mod Words
 pub mod Prepared
+pub mod Finds
 pub mod Runs
+pub mod Clients
 pub mod Ends
 pub mod Stages
 pub mod Merging

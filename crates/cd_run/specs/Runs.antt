@@ -1,14 +1,13 @@
 -- Trusted: the entries of a task and how it ends, each way by its name. `pins` are the pins that the worker was given,
 -- each with its root and, where it is told, its tree.
-use Rattle.std.specs.Prelude.{◌≡◌, ◌⊎◌, ℕ, ◌+◌, ◌≤◌, Bool, true, false, ◌||◌, List, [], ◌∷◌, ◌++◌, length, sum, Option, Some, None, Result, Ok, Err, IfSome}
-use Rattle.std.specs.Option.{option_map}
+use Rattle.std.specs.Prelude.{◌≡◌, ◌⊎◌, ℕ, ◌+◌, ◌≤◌, Bool, true, false, ◌||◌, List, [], ◌∷◌, ◌++◌, length, sum, Option, Some, None, Result, Ok, Err}
 use Rattle.cd_base.specs.Counts.{Rose}
 use Rattle.cd_base.specs.declared.hash.Hash256.{Hash256}
 use Rattle.cd_base.specs.declared.answers.Memory.{Memory}
 use Rattle.cd_block.specs.declared.block.BlockId.{BlockId}
 use Rattle.cd_cell.specs.Infos.{rep_of_info}
 use Rattle.cd_cell.specs.PreparedView.{PreparedView}
-use Rattle.cd_cell.specs.Tree.{Tree, rep_of}
+use Rattle.cd_cell.specs.Tree.{Tree}
 use Rattle.cd_event.specs.declared.names.Who.{Who}
 use Rattle.cd_event.specs.declared.event.Event.TheVariants as event
 use Rattle.cd_event.specs.declared.entry.Entry.{Entry}
@@ -22,11 +21,11 @@ use Rattle.cd_event.specs.Looks.{looks, failed_look}
 use Rattle.cd_event.specs.Turning.{RisesOnly, is_keeper}
 use Rattle.cd_feed.specs.declared.feed.Task.{Task}
 use Rattle.cd_feed.specs.declared.feed.Task.TheVariants as task
-use Rattle.cd_reader.specs.Paths.{cell_along, IsFirstMissing}
 use Rattle.cd_run.specs.declared.outcome.Outcome.{Outcome}
 use Rattle.cd_run.specs.declared.outcome.Outcome.TheVariants as outcome
 use Rattle.cd_run.specs.declared.outcome.TaskRefusal.{TaskRefusal}
 use Rattle.cd_run.specs.declared.outcome.TaskRefusal.TheVariants as word
+use Rattle.cd_run.specs.Finds.{ReadFinds, SliceFinds, ServeFinds}
 use Rattle.cd_run.specs.Words.{word_of}
 use Rattle.cd_run.specs.Prepared.{HasNoState, IsStateOf, HasNoUpdate, HasUpdate, IsPrepared, IsUnprepared, IsMergePrepared, IsMergeUnprepared}
 
@@ -184,50 +183,50 @@ pub data MergedRun {H : Type 0} (digest : List ℕ → Hash256)
       ++ unpinned_as who m.number first ∷ (unpinned_as who n.number second ∷ [])))
       → end ≡ outcome.Refused why → MergedRun digest pins who id left right tops bag es end
 
--- ---- a cell is read
-
--- looks along a path, for one hash more than it has steps at most: the cell's hash, or why there is none
-pub data WalkRun {H : Type 0} (digest : List ℕ → Hash256)
-    (who : Who) (m : Named) (path : List ℕ) (es : List (Entry H))
-    (found : Result Hash256 TaskRefusal) : Type 0 where
-  reached : (asked : List ℕ) (hash : Hash256) → sum asked ≤ length path + 1
-      → IfSome m.tree (λ t. option_map (rep_of digest) (cell_along path t) ≡ Some hash)
-      → es ≡ looks who m.number asked → found ≡ Ok hash → WalkRun digest who m path es found
-  no_child : (asked : List ℕ) (at : ℕ) → sum asked ≤ length path + 1 → IfSome m.tree (λ t. IsFirstMissing path t at)
-      → es ≡ looks who m.number asked → found ≡ Err word.NoChild → WalkRun digest who m path es found
-  cell_unseen : (asked : List ℕ) (last : ℕ) → sum asked + last ≤ length path + 1
-      → es ≡ looks who m.number asked ++ failed_look who m.number last ∷ []
-      → found ≡ Err word.Keeper → WalkRun digest who m path es found
+-- ---- reads, slices and serves: a pin, looks under it, and one unpin
 
 -- the first refusal, the unpin's included
-abbrev pub read_end : Result Hash256 TaskRefusal → Option Bool → Outcome
-read_end (Err why) answer = outcome.Refused why
-read_end (Ok hash) None = outcome.Refused word.Keeper
-read_end (Ok hash) (Some collected) = outcome.Read hash
+abbrev pub let_go_end : Outcome → Option Bool → Outcome
+let_go_end end (Some collected) = end
+let_go_end (outcome.Refused why) None = outcome.Refused why
+let_go_end end None = outcome.Refused word.Keeper
 
-pub data ReadRun {H : Type 0} (digest : List ℕ → Hash256)
-    (pins : List Named) (who : Who) (id : BlockId) (path : List ℕ) (es : List (Entry H))
-    (end : Outcome) : Type 0 where
-  read_not_pinned : (r : Refusal) (why : TaskRefusal) → es ≡ not_pinned who id r ∷ [] → word_of r ≡ Some why
-      → end ≡ outcome.Refused why
-      → ReadRun digest pins who id path es end
-  read_walked : (m : Named) (rest : List (Entry H)) (found : Result Hash256 TaskRefusal)
-      (answer : Option Bool) → find_pin pins m.number ≡ Some m
-      → WalkRun digest who m path rest found
-      → es ≡ pinned_as who id m.number ∷ (rest ++ unpinned_as who m.number answer ∷ [])
-      → end ≡ read_end found answer → ReadRun digest pins who id path es end
+-- for so many hashes as `Few` allows, and with such an end
+module _ {H : Type 0} (Few : ℕ → Type 0) (Finds : Option Tree → Outcome → Type 0) where
+  -- all looks are answered, and the state decides the end; or the last one fails
+  pub data LooksRun (who : Who) (m : Named) (es : List (Entry H)) (end : Outcome) : Type 0 where
+    looked : (asked : List ℕ) → Few (sum asked) → Finds m.tree end → es ≡ looks who m.number asked
+        → LooksRun who m es end
+    look_failed : (asked : List ℕ) (last : ℕ) → Few (sum asked + last)
+        → es ≡ looks who m.number asked ++ failed_look who m.number last ∷ []
+        → end ≡ outcome.Refused word.Keeper → LooksRun who m es end
+
+  pub data PinRun (pins : List Named) (who : Who) (id : BlockId) (es : List (Entry H)) (end : Outcome) : Type 0 where
+    block_not_pinned : (r : Refusal) (why : TaskRefusal) → es ≡ not_pinned who id r ∷ [] → word_of r ≡ Some why
+        → end ≡ outcome.Refused why → PinRun pins who id es end
+    let_go : (m : Named) (rest : List (Entry H)) (found : Outcome) (answer : Option Bool)
+        → find_pin pins m.number ≡ Some m → LooksRun who m rest found
+        → es ≡ pinned_as who id m.number ∷ (rest ++ unpinned_as who m.number answer ∷ [])
+        → end ≡ let_go_end found answer → PinRun pins who id es end
+
+-- a read looks for one hash more than its path has steps at most
+abbrev pub IsFewFor : List ℕ → ℕ → Type 0
+IsFewFor path asked = asked ≤ length path + 1
+
+abbrev pub IsAnyNumber : ℕ → Type 0
+IsAnyNumber asked = Unit {0}
 
 -- ---- a task
 
 module _ {H : Type 0} (digest : List ℕ → Hash256) (pins : List Named) (who : Who) where
-  -- its entries, in order, each once, and its end; a slice and a serve have none here yet
+  -- its entries, in order, each once, and its end
   abbrev pub TaskRun : Task → List (Entry H) → Outcome → Type 0
   TaskRun (task.Zero id tops bag) es end = ZeroRun digest who id tops bag es end
   TaskRun (task.Block id parent tops bag) es end = BlockRun digest pins who id parent tops bag es end
   TaskRun (task.Expire id) es end = ExpireRun who id es end
-  TaskRun (task.Read id path) es end = ReadRun digest pins who id path es end
-  TaskRun (task.Slice id max) es end = ⊥
-  TaskRun (task.Serve id max) es end = ⊥
+  TaskRun (task.Read id path) es end = PinRun (IsFewFor path) (ReadFinds digest path) pins who id es end
+  TaskRun (task.Slice id max) es end = PinRun IsAnyNumber (SliceFinds digest max) pins who id es end
+  TaskRun (task.Serve id max) es end = PinRun IsAnyNumber (ServeFinds digest) pins who id es end
   TaskRun (task.Merged id left right tops bag) es end = MergedRun digest pins who id left right tops bag es end
 
   -- all of its entries
@@ -242,14 +241,6 @@ module _ {H : Type 0} (digest : List ℕ → Hash256) (pins : List Named) (who :
   abbrev pub TaskAnswers : Task → List (Entry H) → Result Outcome Memory → Type 0
   TaskAnswers job es (Ok end) = TaskRun job es end
   TaskAnswers job es (Err memory) = TaskBegun job es
-
--- the kinds of tasks that are done here by now
-abbrev pub is_done_here : Task → Bool
-is_done_here (task.Zero id tops bag) = true
-is_done_here (task.Block id parent tops bag) = true
-is_done_here (task.Expire id) = true
-is_done_here (task.Merged id left right tops bag) = true
-is_done_here _ = false
 
 -- whether the keeper failed one of some entries
 abbrev pub has_failed : {H : Type 0} → List (Entry H) → Bool

@@ -1,13 +1,14 @@
 //! Tasks of blocks over a core of one thread, with the weak hash: a cell of the 8 bits `n` has the hash `n + 2`.
 ghost use Rattle.std.specs.Prelude.{◌≡◌, ◌≤◌, length, true, IfOk};
 ghost use Rattle.cd_feed.specs.Feeds.{IsTaskFit};
-ghost use Rattle.cd_run.specs.Runs.{is_done_here};
+ghost use Rattle.cd_run.specs.Clients.{MayServe};
 
 use cd_base::{Hash256, Memory};
 use cd_block::{BlockId, BlockIds, ShardId};
 use cd_cell::WeakSum;
 use cd_core::{Core, OneThread};
 use cd_event::{Refusal, Reply, Who};
+use cd_fan::{Client, SliceClient};
 use cd_feed::{Bytes, Task};
 use cd_keeper::MemoryKeeper;
 use cd_restart::open_core;
@@ -79,10 +80,10 @@ fn joined_bag(alloc: Global) -> Result<Bytes, Fail>
     Ok(Bytes::from(text))
 }
 
-/// Does a task of the one worker.
+/// Does a task of the one worker, which isn't a serve.
 fn run(alloc: Global, core: &mut TestCore, job: &Task) -> Result<Outcome, Memory>
     requires within { IsTaskFit job.now }
-    requires kind { is_done_here job.now ≡ true }
+    requires alone { MayServe (λ c. got c) job.now [] }
 {
     let who = Who {
         phase: 0,
@@ -90,7 +91,8 @@ fn run(alloc: Global, core: &mut TestCore, job: &Task) -> Result<Outcome, Memory
         task: 0,
     };
     let mut turns = OneThread::new(core, 0);
-    do_task(alloc, &mut turns, who, job, &NoHoldup)
+    let mut clients: Vec<Client> = Vec::new(alloc);
+    do_task(alloc, &mut turns, who, job, &mut clients, &NoHoldup)
 }
 
 /// Stores the cell of 8 bits as a zero state.

@@ -3,6 +3,7 @@ use Rattle.cd_block.specs.declared.block.BlockId.{BlockId}
 use Rattle.cd_world.specs.declared.world.World.{World}
 use Rattle.cd_world.specs.Changes.{stored, without_pins}
 use Rattle.cd_world.specs.Machine.{unmergeable}
+use Rattle.cd_count.specs.Changes.{Rows}
 use Rattle.cd_core.specs.Merging.{rows_of_ends}
 use Rattle.cd_core.proofs.MergeDid.{merge-refused, merge-failed, merge-wanting, merge-judged, merge-once, merge-writable, merge-stored, merge-quiet, merge-reads}
 use Rattle.cd_core.proofs.merging.merge_over.Goals as goal
@@ -56,7 +57,7 @@ returns-in-Err-clause-did g c =
     let plan = c.in-Err.ensures in
     let cause = plan.cause in
     merge-judged g.row.H.Denot k.held g.H.Hash32.digest_of k.trail k.batches k.faults c.args.limit c.args.world.now c.args.keeper.now c.args.who c.args.pin c.args.other c.args.id.now c.args.tops.now c.args.prepared.now c.requires.kept
-    (rows_of_ends c.in-Some.ends) (sym c.in-Some.ensures) (sym c.in_default-merge_refusal.ensures.refusal) (Rattle.cd_count.specs.contracts.plan.Plan.the_row).Denot c.plan_state.new.keeper c.in-Err.fault c.merge_fault.result c.merge_fault.ensures c.requires.fits
+    (rows_of_ends c.in-Some.ends) (sym c.in-Some.ensures) (sym c.in_default-merge_refusal.ensures.refusal) Rows c.plan_state.new.keeper c.in-Err.fault c.merge_fault.result c.merge_fault.ensures c.requires.fits
     plan.keeps cause.later cause.caused c.as_slice-2.result.now (c.as_slice-2.ensures.value ∙ c.in-Ok.ensures) plan.judged
 
 pub store_without-requires-clause-once : goal.store_without-requires-clause-once
@@ -89,7 +90,7 @@ returns-in-Ok-store_without-clause-did g c =
     c.requires.limit plan.storable cause.steady made.0 c.store_without.new.keeper c.answer_of.result c.end_all.new.world
     c.in-Ok-stored_descr.descr (c.in-Ok-stored_descr.ensures ∙ ap (λ (ps : List BlockId). stored c.args.id.now ps c.args.tops.now c.args.prepared.now) same)
     (c.end_all.ensures ∙ ap (λ (w : World). without_pins w rows) c.in-Ok-store_without.ensures.world)
-    made.1 made.2 after.steady (Rattle.cd_count.specs.contracts.plan.Plan.the_row).Denot c.in-Ok-plan_state.plan plan.judged
+    made.1 made.2 after.steady Rows c.in-Ok-plan_state.plan plan.judged
 
 pub returns-in-Ok-store_without-clause-quiet : goal.returns-in-Ok-store_without-clause-quiet
 returns-in-Ok-store_without-clause-quiet g c =

@@ -3,6 +3,7 @@ use Rattle.std.specs.List.{IsDistinct}
 use Rattle.cd_block.specs.declared.block.BlockId.{BlockId}
 use Rattle.cd_block.specs.Block.{key_of}
 use Rattle.cd_keeper.specs.NoKeyTwice.{same_key}
+use Rattle.cd_count.specs.Changes.{Rows}
 use Rattle.cd_core.proofs.Places.{one-key-alone}
 use Rattle.cd_core.proofs.ZeroDid.{zero-refused, zero-planless, zero-failed, zero-wanting, zero-stored}
 use Rattle.cd_core.proofs.storing.store_zero.Goals as goal
@@ -18,7 +19,7 @@ returns-in-Err-clause-did g c =
     let k = g.K.Keeper in
     let cause = c.in-Err.ensures.cause in
     zero-planless g.row.H.Denot k.held g.H.Hash32.digest_of k.trail k.batches k.faults c.args.limit c.args.world.now c.args.keeper.now c.args.who c.args.id.now c.args.tops.now c.args.prepared.now c.requires.kept
-    (Rattle.cd_count.specs.contracts.plan.Plan.the_row).Denot c.plan_state.new.keeper c.in-Err.fault c.zero_fault.result c.zero_fault.ensures (sym c.in_default.ensures.refusal) c.in-Err.ensures.keeps cause.later cause.caused (λ t is h. c.in-Err.ensures.judged t is h c.requires.whole)
+    Rows c.plan_state.new.keeper c.in-Err.fault c.zero_fault.result c.zero_fault.ensures (sym c.in_default.ensures.refusal) c.in-Err.ensures.keeps cause.later cause.caused (λ t is h. c.in-Err.ensures.judged t is h c.requires.whole)
 
 pub returns-in_default-stored_descr-clause-did : goal.returns-in_default-stored_descr-clause-did
 returns-in_default-stored_descr-clause-did g c =

@@ -1,14 +1,14 @@
-use Rattle.std.proofs.Common.{◌≡◌, ◌+◌, List, [], ◌∷◌, Option, Some, None, IsSome, IfSome, refl, sym, ap, ◌∙◌, cond, subst}
+use Rattle.std.proofs.Common.{◌≡◌, List, [], ◌∷◌, Option, Some, None, IsSome, IfSome, refl, sym, ap, ◌∙◌, cond, subst}
+use Rattle.std.specs.Option.{option_map}
 use Rattle.std.specs.Ordering.{is_eq}
 use Rattle.std.specs.BTreeMap as tree
 use Rattle.cd_base.specs.declared.hash.Hash256.{Hash256}
 use Rattle.cd_cell.specs.Export.{hash_cmp}
 use Rattle.cd_keeper.specs.Contents.{Contents}
-use Rattle.cd_record.specs.declared.record.Record.{Record}
 use Rattle.cd_count.specs.declared.rows.Row.{Row}
 use Rattle.cd_count.specs.Reading.{stored_in}
 use Rattle.cd_count.specs.PlanSteps.{RowMap, first_row}
-use Rattle.cd_count.specs.PlanRows.{rows_of, row_of, IsRowFit}
+use Rattle.cd_count.specs.PlanRows.{rows_of, row_of}
 use Rattle.cd_count.specs.PlanGiving.{AreGiven, IsRowGood, AreRowsGood}
 use Rattle.cd_count.proofs.Steps.{if_some, if_some-map}
 use Rattle.cd_count.proofs.Gives.{given-there, given-read, given-lost}
@@ -27,19 +27,19 @@ returns-in-Some-clause-given g c =
 pub returns-in_default-2-clause-given : goal.returns-in_default-2-clause-given
 returns-in_default-2-clause-given g c =
     let none : tree.get hash_cmp c.args.rows.now c.args.hash.now ≡ None = sym c.in_default.ensures.value in
-    if_some-map (λ (contents : Contents). c.in_ok-record.field-0 ≡ stored_in contents c.args.hash.now.0)
+    if_some-map (λ (contents : Contents). c.in_ok-row.field-0 ≡ option_map first_row (stored_in contents c.args.hash.now.0))
     (λ (contents : Contents). AreGiven (stored_in contents) c.args.rows.now (c.args.hash.now.0 ∷ []) c.get_mut.follows.lender-at-none)
-    (g.K.Keeper.held c.args.keeper.now) c.in_ok-record.ensures.value
+    (g.K.Keeper.held c.args.keeper.now) c.in_ok-row.ensures.value
     (λ contents is. given-lost (stored_in contents) c.args.rows.now c.get_mut.follows.lender-at-none c.args.hash.now none (sym c.in_default-2.is ∙ is) c.get_mut.follows.holds-at-none)
 
 pub returns-clause-given : goal.returns-clause-given
 returns-clause-given g c =
     let none : tree.get hash_cmp c.args.rows.now c.args.hash.now ≡ None = sym c.in_default.ensures.value in
-    if_some-map (λ (contents : Contents). c.in_ok-record.field-0 ≡ stored_in contents c.args.hash.now.0)
+    if_some-map (λ (contents : Contents). c.in_ok-row.field-0 ≡ option_map first_row (stored_in contents c.args.hash.now.0))
     (λ (contents : Contents). AreGiven (stored_in contents) c.args.rows.now (c.args.hash.now.0 ∷ []) c.insert.new.self)
-    (g.K.Keeper.held c.args.keeper.now) c.in_ok-record.ensures.value
-    (λ contents is. given-read (stored_in contents) c.args.rows.now c.insert.new.self c.args.hash.now c.in-Some-2.record c.raise-2.new.row none (sym c.in-Some-2.is ∙ is)
-    (c.in_ok-raise-2.ensures ∙ ap (λ (r : Row). record r { count = r.count + 1 }) c.first_row-row.ensures)
+    (g.K.Keeper.held c.args.keeper.now) c.in_ok-row.ensures.value
+    (λ contents is. given-read (stored_in contents) c.args.rows.now c.insert.new.self c.args.hash.now c.in-Some-2.row c.raise-2.new.row none (sym c.in-Some-2.is ∙ is)
+    c.in_ok-raise-2.ensures
     (λ q. c.in_ok-insert.ensures.updates.0 q ∙ ap (λ (m : RowMap). cond (is_eq (hash_cmp c.args.hash.now q)) (Some c.raise-2.new.row) (tree.get hash_cmp m q)) c.get_mut.follows.holds-at-none))
 
 pub returns-in-Some-clause-good : goal.returns-in-Some-clause-good
@@ -53,9 +53,8 @@ returns-in_default-2-clause-good g c = λ good. subst (λ (m : RowMap). AreRowsG
 
 pub returns-clause-good : goal.returns-clause-good
 returns-clause-good g c = λ good.
-    let read : IsRowFit (row_of (first_row c.in-Some-2.record)) = subst (λ (o : Option Record). IfSome o (λ r. IsRowFit (row_of (first_row r)))) c.in-Some-2.is c.in_ok-record.ensures.fit in
-    let first : IsRowGood (row_of (first_row c.in-Some-2.record)) = record { face = read.face; few = read.few } in
+    let first : IsRowGood (row_of c.in-Some-2.row) = subst (λ (o : Option Row). IfSome o (λ r. IsRowGood (row_of r))) c.in-Some-2.is c.in_ok-row.ensures.good in
     subst (λ (es : List (Hash256 × Row)). AreRowsGood (rows_of es)) (sym c.in_ok-insert.ensures.entries)
     (good-insert c.get_mut.follows.lender-at-none.entries c.args.hash.now c.raise-2.new.row
-    (good-raise (first_row c.in-Some-2.record) c.raise-2.new.row (c.in_ok-raise-2.ensures ∙ ap (λ (r : Row). record r { count = r.count + 1 }) c.first_row-row.ensures) first)
+    (good-raise c.in-Some-2.row c.raise-2.new.row c.in_ok-raise-2.ensures first)
     (subst (λ (m : RowMap). AreRowsGood (rows_of m.entries)) (sym c.get_mut.follows.holds-at-none) good))

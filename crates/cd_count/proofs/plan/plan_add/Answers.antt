@@ -20,7 +20,7 @@ use Rattle.cd_world.specs.Told as told
 use Rattle.cd_world.specs.Told.{ToldWorld, shown}
 use Rattle.cd_count.specs.declared.rows.Row.{Row}
 use Rattle.cd_count.specs.declared.count_fault.CountFault.{CountFault}
-use Rattle.cd_count.specs.Changes.{AreAdded}
+use Rattle.cd_count.specs.Changes.{AreAdded, Rows}
 use Rattle.cd_count.specs.Bringing.{unheld, IsBrought, HaveCome}
 use Rattle.cd_count.specs.Clashes.{RefusesClash, RefusesFull}
 use Rattle.cd_count.specs.PlanGiving.{is_another, AreListed, AreRowsGood, rises_over}
@@ -53,12 +53,12 @@ returns-in-Some-clause-clash g c =
     let rows = c.list_cells.new.rows in
     let so = c.in_ok-cell.ensures in
     if_both (λ (contents : Contents). Listed cells contents c.new-rows.result rows) (λ (contents : Contents). Least cells contents (option_map (λ r. r.now) c.in_ok-cell.field-0))
-    (λ (contents : Contents). (old : ToldWorld) → AreSoundContents H old contents → RefusesClash {T = (Rattle.cd_count.specs.contracts.plan.Plan.the_row).Denot} (told.first_clash H old c.args.prepared.now.cells) (Rattle.std.proofs.Common.Err c.clash_of.result))
+    (λ (contents : Contents). (old : ToldWorld) → AreSoundContents H old contents → RefusesClash {T = Rows} (told.first_clash H old c.args.prepared.now.cells) (Rattle.std.proofs.Common.Err c.clash_of.result))
     (g.K.Keeper.held c.args.keeper.now) so.listed so.least
     (λ contents listed least old sound.
     let is = clash-is H contents old (readable H old contents sound) cells cell rows (listed (none-listed (stored_in contents) c.new-rows.result c.new-rows.ensures.empty))
     (sym (ap (option_map (λ r. r.now)) c.in-Some.is) ∙ least H) in
-    subst (λ (fault : CountFault). RefusesClash {T = (Rattle.cd_count.specs.contracts.plan.Plan.the_row).Denot} (told.first_clash H old c.args.prepared.now.cells) (Rattle.std.proofs.Common.Err fault)) (sym c.clash_of.ensures)
+    subst (λ (fault : CountFault). RefusesClash {T = Rows} (told.first_clash H old c.args.prepared.now.cells) (Rattle.std.proofs.Common.Err fault)) (sym c.clash_of.ensures)
     (ap (told.first_clash H old) (sym c.cells-cells.ensures.value) ∙ is))
 
 pub returns-in_err-cell-clause-clash : goal.returns-in_err-cell-clause-clash
@@ -175,9 +175,9 @@ returns-in_err-check_limit-clause-full g c =
 pub returns-in-Some-clause-full : goal.returns-in-Some-clause-full
 returns-in-Some-clause-full g c =
     let H = g.H.Hash32.digest_of in
-    if_some (Full H c.args.prepared.now.root c.args.prepared.now.cells (λ old grown. RefusesFull {T = (Rattle.cd_count.specs.contracts.plan.Plan.the_row).Denot} (told.first_overflow H c.args.limit old grown) (Rattle.std.proofs.Common.Err c.clash_of.result)))
+    if_some (Full H c.args.prepared.now.root c.args.prepared.now.cells (λ old grown. RefusesFull {T = Rows} (told.first_overflow H c.args.limit old grown) (Rattle.std.proofs.Common.Err c.clash_of.result)))
     (g.K.Keeper.held c.args.keeper.now)
-    (λ contents old grown block listed sound brought is. clash-fills {T = (Rattle.cd_count.specs.contracts.plan.Plan.the_row).Denot} (told.first_overflow H c.args.limit old grown) _ _ _ c.clash_of.result (Rattle.std.proofs.Common.Err c.clash_of.result) refl c.clash_of.ensures)
+    (λ contents old grown block listed sound brought is. clash-fills {T = Rows} (told.first_overflow H c.args.limit old grown) _ _ _ c.clash_of.result (Rattle.std.proofs.Common.Err c.clash_of.result) refl c.clash_of.ensures)
 
 pub returns-in_err-cell-clause-full : goal.returns-in_err-cell-clause-full
 returns-in_err-cell-clause-full g c =
