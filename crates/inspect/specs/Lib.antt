@@ -1,2 +1,3 @@
 pub mod EndText
 pub mod Ends
+pub mod Told

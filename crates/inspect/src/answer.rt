@@ -1,5 +1,6 @@
-ghost use Rattle.std.specs.Prelude.{◌≢◌};
+ghost use Rattle.std.specs.Prelude.{◌≡◌, ◌≢◌, IfOk};
 ghost use Rattle.inspect.specs.Ends.{HasEnded};
+ghost use Rattle.inspect.specs.Told.{Tells, HasTold};
 
 use crate::end::End;
 use crate::limits::INPUT_LIMIT;
@@ -13,7 +14,9 @@ use inspect_words::Mode;
 use std::alloc::{AllocError, Global};
 
 /// What is printed for an input.
-fn text_of<H: Hash32>(alloc: Global, mode: Mode, input: &[u8]) -> Result<Vec<u8>, AllocError> {
+fn text_of<H: Hash32>(alloc: Global, mode: Mode, input: &[u8]) -> Result<Vec<u8>, AllocError>
+    ensures { IfOk result (λ text. Tells H.digest_of mode input.now text.items) }
+{
     match mode {
         Mode::Lines => Ok(lines_text::<H>(alloc, input)?.into_bytes()),
         Mode::Raw => Ok(raw_text::<H>(alloc, input)?.into_bytes()),
@@ -35,6 +38,8 @@ pub fn answer<S: Source, O: Sink, H: Hash32>(
 ) -> End
     ensures ended { HasEnded S.Source O.Sink input.old input.new out.old out.new result }
     ensures known { result ≢ End.Usage }
+    ensures told { result ≡ End.Done
+        → HasTold S.Source O.Sink H.digest_of mode input.old out.old out.new }
 {
     let bytes = match read_all(alloc, input, INPUT_LIMIT) {
         Ok(bytes) => bytes,

@@ -1,8 +1,9 @@
-ghost use Rattle.std.specs.Prelude.{◌≡◌, None, drop, map, string_bytes};
+ghost use Rattle.std.specs.Prelude.{◌≡◌, None, IfSome, drop, map, string_bytes};
 ghost use Rattle.std.specs.Process.{exit_status};
 ghost use Rattle.inspect_words.specs.Modes.{asked_mode};
 ghost use Rattle.inspect.specs.EndText.{code_of, line_of};
 ghost use Rattle.inspect.specs.Ends.{HasEnded, HasWritten};
+ghost use Rattle.inspect.specs.Told.{HasTold};
 
 use crate::answer::answer;
 use crate::end::End;
@@ -31,6 +32,8 @@ pub fn run<S: Source, O: Sink, H: Hash32>(
 ) -> End
     ensures ended { HasEnded S.Source O.Sink input.old input.new out.old out.new result }
     ensures unknown { result ≡ End.Usage → asked_mode (map string_bytes words.now) ≡ None }
+    ensures told { result ≡ End.Done → IfSome (asked_mode (map string_bytes words.now))
+        (λ mode. HasTold S.Source O.Sink H.digest_of mode input.old out.old out.new) }
 {
     match read_words(alloc, words) {
         Ok(Asked::Work(mode)) => answer::<S, O, H>(alloc, mode, input, out),
