@@ -14,6 +14,7 @@ code_of (status.Damaged fault) = 3
 code_of status.ReadFault = 4
 code_of status.WriteFault = 5
 code_of status.KeeperFault = 6
+code_of status.ClientFault = 7
 code_of (status.Refused refusal) = 8
 code_of status.Memory = 9
 
@@ -40,7 +41,9 @@ line_of (status.Damaged fault) = codes "celldb: damaged store\n"
 line_of status.ReadFault = codes "celldb: read fault\n"
 line_of status.WriteFault = codes "celldb: write fault\n"
 line_of status.KeeperFault = codes "celldb: keeper fault\n"
+line_of status.ClientFault = codes "celldb: client fault\n"
 line_of (status.Refused (refusal.Roots roots)) = codes "celldb: refused Roots\n"
 line_of (status.Refused (refusal.Level mask)) = codes "celldb: refused Level\n"
+line_of (status.Refused (refusal.TooMany limit)) = codes "celldb: refused TooMany\n"
 line_of (status.Refused (refusal.Core why)) = refused_line why
 line_of status.Memory = codes "celldb: no memory\n"

@@ -1,13 +1,13 @@
 //! What the commands of the program share: how a call ends, printing, and opening a store.
 #![tactic(auto)]
 
-mod ended;
+mod finished;
 mod opening;
 mod printing;
 mod status;
 
 pub use cd_words::WordFault;
-pub use ended::Ended;
+pub use finished::Finished;
 pub use opening::open_store;
 pub use printing::print;
 pub use status::{InputFault, Status, TopRefusal};

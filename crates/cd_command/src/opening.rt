@@ -6,7 +6,7 @@ ghost use Rattle.cd_restart.specs.OpenEnds.{IsOpenedCore};
 ghost use Rattle.cd_command.specs.Opening as spec;
 ghost use Rattle.cd_command.specs.Opening.{IsUnopenedBy};
 
-use crate::ended::Ended;
+use crate::finished::Finished;
 use crate::status::Status;
 use cd_cell::Hash32;
 use cd_core::Core;
@@ -28,7 +28,10 @@ fn status_by(fault: OpenFault) -> Status
 
 /// Opens the store that a keeper holds, as `open_core` does, with the greatest limit of a count; or gives the end of a
 /// call over one that isn't opened.
-pub fn open_store<K: Keeper, H: Hash32>(alloc: Global, keeper: K) -> Result<Core<K, H>, Ended<K, H>>
+pub fn open_store<K: Keeper, H: Hash32>(
+    alloc: Global,
+    keeper: K,
+) -> Result<Core<K, H>, Finished<K, H>>
     ensures opened { IfOk result (IsOpenedCore H.digest_of K.Keeper keeper GREATEST_COUNT) }
     ensures kept { IfOk result (λ core. IsCore K.held H.digest_of K.trail K.batches K.faults
         core.start core.journal core.keeper) }
@@ -41,6 +44,6 @@ pub fn open_store<K: Keeper, H: Hash32>(alloc: Global, keeper: K) -> Result<Core
             let _ = core.journal();
             Ok(core)
         }
-        Err((keeper, fault)) => Err(Ended::of(alloc, status_by(fault), keeper)),
+        Err((keeper, fault)) => Err(Finished::of(alloc, status_by(fault), keeper)),
     }
 }

@@ -5,6 +5,7 @@ ghost use Rattle.cd_command.specs.StatusText as spec;
 use cd_boc_read::BagFault;
 use cd_cell::Mask;
 use cd_event::Refusal;
+use cd_feed::FeedFault;
 use cd_restart::ScanFault;
 use cd_words::WordFault;
 use thiserror::Error;
@@ -21,6 +22,9 @@ pub enum InputFault {
     /// The input isn't a bag of cells, by this first fault.
     #[error("the input is not a bag of cells: {0}")]
     Bag(BagFault),
+    /// The input isn't a feed, by this first fault.
+    #[error("the input is not a feed: {0}")]
+    Feed(FeedFault),
 }
 
 /// Why the work was refused, though the input was good. About 1.4 kilobytes, for the two faces of a clash.
@@ -32,6 +36,9 @@ pub enum TopRefusal {
     /// The root of a state is of level 0, and this one has another mask.
     #[error("a root of mask {} is no state's", mask.byte())]
     Level { mask: Mask },
+    /// A state is written as a bag of at most so many distinct cells, and this one has more.
+    #[error("a state of more than {limit} cells is not exported")]
+    TooMany { limit: u64 },
     /// The store refused the event that was asked for.
     #[error("the store refuses it: {0:?}")]
     Core(Refusal),
@@ -54,6 +61,8 @@ pub enum Status {
     WriteFault,
     /// The keeper failed.
     KeeperFault,
+    /// A client failed, and is gone.
+    ClientFault,
     /// The work was refused. Nothing was stored.
     Refused(TopRefusal),
     /// Memory ran out.
@@ -73,6 +82,7 @@ impl Status {
             Status::ReadFault => 4,
             Status::WriteFault => 5,
             Status::KeeperFault => 6,
+            Status::ClientFault => 7,
             Status::Refused(_) => 8,
             Status::Memory => 9,
         }
@@ -90,8 +100,10 @@ impl Status {
             Status::ReadFault => "celldb: read fault\n",
             Status::WriteFault => "celldb: write fault\n",
             Status::KeeperFault => "celldb: keeper fault\n",
+            Status::ClientFault => "celldb: client fault\n",
             Status::Refused(TopRefusal::Roots { .. }) => "celldb: refused Roots\n",
             Status::Refused(TopRefusal::Level { .. }) => "celldb: refused Level\n",
+            Status::Refused(TopRefusal::TooMany { .. }) => "celldb: refused TooMany\n",
             Status::Refused(TopRefusal::Core(refusal)) => refused_line(refusal),
             Status::Memory => "celldb: no memory\n",
         }

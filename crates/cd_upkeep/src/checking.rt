@@ -6,7 +6,7 @@ ghost use Rattle.cd_upkeep.specs.CheckCall as spec;
 use crate::texts::totals_text;
 use cd_base::Sink;
 use cd_cell::Hash32;
-use cd_command::{Ended, Status, print};
+use cd_command::{Finished, Status, print};
 use cd_keeper::Keeper;
 use cd_restart::{Opened, ScanFault, scan};
 use std::alloc::Global;
@@ -57,10 +57,10 @@ pub fn check<O: Sink, K: Keeper, H: Hash32>(
     alloc: Global,
     out: &mut O,
     mut keeper: K,
-) -> Ended<K, H>
+) -> Finished<K, H>
     ensures ends { CheckEnds H.digest_of K.Keeper O.Sink out.old out.new keeper result.keeper result.status }
     ensures no_entry { result.journal.items ≡ [] }
 {
     let status = check_and_print::<O, K, H>(alloc, out, &mut keeper);
-    Ended::of(alloc, status, keeper)
+    Finished::of(alloc, status, keeper)
 }

@@ -7,7 +7,7 @@ use crate::checking::read_store;
 use crate::texts::migrated_text;
 use cd_base::Sink;
 use cd_cell::Hash32;
-use cd_command::{Ended, Status, print};
+use cd_command::{Finished, Status, print};
 use cd_keeper::Keeper;
 use cd_migrate::{MigrateFault, Migrated, migrate};
 use std::alloc::Global;
@@ -61,10 +61,10 @@ pub fn migrate_store<O: Sink, K: Keeper, H: Hash32>(
     alloc: Global,
     out: &mut O,
     mut keeper: K,
-) -> Ended<K, H>
+) -> Finished<K, H>
     ensures ends { MigrateEnds H.digest_of K.Keeper O.Sink out.old out.new keeper result.keeper result.status }
     ensures no_entry { result.journal.items ≡ [] }
 {
     let status = rewrite_and_print::<O, K, H>(alloc, out, &mut keeper);
-    Ended::of(alloc, status, keeper)
+    Finished::of(alloc, status, keeper)
 }

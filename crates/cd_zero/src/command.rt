@@ -6,7 +6,7 @@ use crate::preparing::prepared_of;
 use crate::storing::store;
 use cd_base::{ReadAllFault, Sink, Source, read_all};
 use cd_cell::Hash32;
-use cd_command::{Ended, InputFault, Status};
+use cd_command::{Finished, InputFault, Status};
 use cd_keeper::Keeper;
 use std::alloc::Global;
 
@@ -19,20 +19,20 @@ pub fn zero<S: Source, O: Sink, K: Keeper, H: Hash32>(
     input: &mut S,
     out: &mut O,
     keeper: K,
-) -> Ended<K, H>
+) -> Finished<K, H>
     ensures { ZeroEnds H.digest_of S.Source O.Sink K.Keeper name input.old input.new out.old out.new
         keeper result.keeper result.journal.items result.status }
 {
     let bytes = match read_all(alloc, input, INPUT_LIMIT) {
         Ok(bytes) => bytes,
-        Err(ReadAllFault::Failed) => return Ended::of(alloc, Status::ReadFault, keeper),
+        Err(ReadAllFault::Failed) => return Finished::of(alloc, Status::ReadFault, keeper),
         Err(ReadAllFault::Long { limit }) => {
-            return Ended::of(alloc, Status::BadInput(InputFault::Long { limit }), keeper);
+            return Finished::of(alloc, Status::BadInput(InputFault::Long { limit }), keeper);
         }
-        Err(ReadAllFault::Memory) => return Ended::of(alloc, Status::Memory, keeper),
+        Err(ReadAllFault::Memory) => return Finished::of(alloc, Status::Memory, keeper),
     };
     match prepared_of::<H>(alloc, bytes) {
         Ok(prepared) => store(alloc, name, prepared, out, keeper),
-        Err(status) => Ended::of(alloc, status, keeper),
+        Err(status) => Finished::of(alloc, status, keeper),
     }
 }

@@ -14,7 +14,7 @@ use crate::name::{ZeroName, block_text, id_of};
 use cd_base::Sink;
 use cd_block::{BlockId, BlockIds};
 use cd_cell::{Hash32, Prepared};
-use cd_command::{Ended, Status, TopRefusal, open_store, print};
+use cd_command::{Finished, Status, TopRefusal, open_store, print};
 use cd_core::Core;
 use cd_event::{Entry, Refusal, Stored, Who, ZeroFault};
 use cd_keeper::Keeper;
@@ -107,7 +107,7 @@ pub fn store<O: Sink, K: Keeper, H: Hash32>(
     prepared: Prepared<H>,
     out: &mut O,
     keeper: K,
-) -> Ended<K, H>
+) -> Finished<K, H>
     requires whole { Fits H.digest_of prepared.root prepared.cells [] }
     ensures { (state : Tree) → IsListOf H.digest_of state prepared
         → StoringEnds H.digest_of K.Keeper name state O.Sink result.journal.items
@@ -115,7 +115,7 @@ pub fn store<O: Sink, K: Keeper, H: Hash32>(
 {
     let id = id_of(name, prepared.root().rep());
     let Ok(text) = block_text(alloc, &id, prepared.cells().len()) else {
-        return Ended::of(alloc, Status::Memory, keeper);
+        return Finished::of(alloc, Status::Memory, keeper);
     };
     let core = match open_store::<K, H>(alloc, keeper) {
         Ok(core) => core,
@@ -126,7 +126,7 @@ pub fn store<O: Sink, K: Keeper, H: Hash32>(
         keeper,
         journal,
     } = take(alloc, core, id, prepared);
-    Ended {
+    Finished {
         status: tell(&answer, out, &text),
         keeper,
         journal,
