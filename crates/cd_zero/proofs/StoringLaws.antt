@@ -46,6 +46,7 @@ module _ (H : List ℕ → Hash256) {K O X : Type 0} (k : KeeperGhosts K) (o : S
   unopened-ends journal out keeper keeper_after (status.BadInput fault) un none = un
   unopened-ends journal out keeper keeper_after status.ReadFault un none = un
   unopened-ends journal out keeper keeper_after status.WriteFault un none = absurd un
+  unopened-ends journal out keeper keeper_after status.ClientFault un none = absurd un
   unopened-ends journal out keeper keeper_after (status.Refused refusal) un none = absurd un
 
   module _ (listed : PreparedView) (lists : IsListOf H state listed) (journal : List (Entry X)) (out out_after : O) (keeper keeper_after : K)
@@ -74,6 +75,7 @@ module _ (H : List ℕ → Hash256) {K O X : Type 0} (k : KeeperGhosts K) (o : S
     printed text (status.Damaged fault) is so done = absurd done
     printed text status.ReadFault is so done = absurd done
     printed text status.KeeperFault is so done = absurd done
+    printed text status.ClientFault is so done = absurd done
     printed text (status.Refused refusal) is so done = absurd done
     printed text status.Memory is so done = absurd done
 

@@ -28,8 +28,10 @@ module _ (H : List ℕ → Hash256) (name : ZeroName) {S O K X : Type 0} (s : So
   ends-taken state (status.Usage fault) read e = e
   ends-taken state (status.BadInput fault) read e = absurd e
   ends-taken state status.ReadFault read e = absurd e
+  ends-taken state status.ClientFault read e = absurd e
   ends-taken state (status.Refused (refusal.Roots roots)) read e = absurd e
   ends-taken state (status.Refused (refusal.Level mask)) read e = absurd e
+  ends-taken state (status.Refused (refusal.TooMany limit)) read e = absurd e
 
   -- nothing was asked of the keeper
   pub idle-same : AreSame out out_after keeper keeper_after journal → IsIdle H k journal keeper keeper_after
@@ -45,11 +47,14 @@ module _ (H : List ℕ → Hash256) (name : ZeroName) {S O K X : Type 0} (s : So
   ends-refused bytes (status.Usage fault) read same refused = refused
   ends-refused bytes (status.BadInput (input.Long limit)) read same refused = absurd refused
   ends-refused bytes (status.BadInput (input.Bag fault)) read same refused = (record { bytes = bytes; input = read; refusal = refused }, same)
+  ends-refused bytes (status.BadInput (input.Feed fault)) read same refused = absurd refused
   ends-refused bytes (status.Damaged fault) read same refused = absurd refused
   ends-refused bytes status.ReadFault read same refused = absurd refused
   ends-refused bytes status.WriteFault read same refused = absurd refused
   ends-refused bytes status.KeeperFault read same refused = absurd refused
+  ends-refused bytes status.ClientFault read same refused = absurd refused
   ends-refused bytes (status.Refused (refusal.Roots roots)) read same refused = (record { bytes = bytes; input = read; refusal = refused }, same)
   ends-refused bytes (status.Refused (refusal.Level mask)) read same refused = (record { bytes = bytes; input = read; refusal = refused }, same)
+  ends-refused bytes (status.Refused (refusal.TooMany limit)) read same refused = absurd refused
   ends-refused bytes (status.Refused (refusal.Core why)) read same refused = absurd refused
   ends-refused bytes status.Memory read same refused = (read.steady, idle-same same, ap k.faults same.keeper, same.sink)
