@@ -1,4 +1,5 @@
 pub mod StatusText
 pub mod Printing
+pub mod Reading
 pub mod Untouched
 pub mod Opening

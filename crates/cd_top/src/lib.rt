@@ -6,7 +6,7 @@ mod feed;
 mod once;
 mod work;
 
-pub use cd_command::{InputFault, Status, TopRefusal, WordFault};
-pub use cd_zero::{INPUT_LIMIT, ZeroName};
+pub use cd_command::{INPUT_LIMIT, InputFault, Status, TopRefusal, WordFault};
+pub use cd_zero::ZeroName;
 pub use ended::Ended;
 pub use once::celldb_once;

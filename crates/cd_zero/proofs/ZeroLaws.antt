@@ -10,10 +10,11 @@ use Rattle.cd_command.specs.declared.status.Status.{Status}
 use Rattle.cd_command.specs.declared.status.Status.TheVariants as status
 use Rattle.cd_command.specs.declared.status.InputFault.TheVariants as input
 use Rattle.cd_command.specs.declared.status.TopRefusal.TheVariants as refusal
+use Rattle.cd_command.specs.Reading.{IsInput, IsUnread}
 use Rattle.cd_command.specs.Untouched.{AreSame}
 use Rattle.cd_command.specs.Opening.{IsIdle}
 use Rattle.cd_zero.specs.declared.name.ZeroName.{ZeroName}
-use Rattle.cd_zero.specs.ZeroCall.{IsInput, IsOfState, IsRefusal, StoringEnds, ZeroEnds}
+use Rattle.cd_zero.specs.ZeroCall.{IsOfState, IsRefusal, StoringEnds, ZeroEnds}
 
 module _ (H : List ℕ → Hash256) (name : ZeroName) {S O K X : Type 0} (s : SourceGhosts S) (o : SinkGhosts O) (k : KeeperGhosts K)
     (i j : S) (out out_after : O) (keeper keeper_after : K) (journal : List (Entry X)) where
@@ -58,3 +59,19 @@ module _ (H : List ℕ → Hash256) (name : ZeroName) {S O K X : Type 0} (s : So
   ends-refused bytes (status.Refused (refusal.TooMany limit)) read same refused = absurd refused
   ends-refused bytes (status.Refused (refusal.Core why)) read same refused = absurd refused
   ends-refused bytes status.Memory read same refused = (read.steady, idle-same same, ap k.faults same.keeper, same.sink)
+
+  -- an input that isn't read to its end ends as the table says
+  pub ends-unread : (end : Status) → AreSame out out_after keeper keeper_after journal → IsUnread s i j end
+      → ZeroEnds H s o k name i j out out_after keeper keeper_after journal end
+  ends-unread (status.BadInput (input.Long limit)) same unread = (unread.0, unread.1, same)
+  ends-unread status.ReadFault same unread = (unread, same)
+  ends-unread status.Memory same unread = (unread, idle-same same, ap k.faults same.keeper, same.sink)
+  ends-unread status.Ok same unread = absurd unread
+  ends-unread (status.Usage fault) same unread = absurd unread
+  ends-unread (status.BadInput (input.Bag fault)) same unread = absurd unread
+  ends-unread (status.BadInput (input.Feed fault)) same unread = absurd unread
+  ends-unread (status.Damaged fault) same unread = absurd unread
+  ends-unread status.WriteFault same unread = absurd unread
+  ends-unread status.KeeperFault same unread = absurd unread
+  ends-unread status.ClientFault same unread = absurd unread
+  ends-unread (status.Refused refusal) same unread = absurd unread
