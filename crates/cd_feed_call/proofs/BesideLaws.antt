@@ -1,5 +1,5 @@
 -- There are as many ends as tasks.
-use Rattle.std.proofs.Common.{◌≡◌, ℕ, zero, suc, ◌+◌, ◌<◌, List, [], ◌∷◌, length, drop, map, slice_get, slice_index_or, vec_len, Vec, Option, Some, refl, sym, ap, subst, ◌∙◌, arith}
+use Rattle.std.proofs.Common.{◌≡◌, ℕ, zero, suc, ◌+◌, ◌<◌, List, [], ◌∷◌, length, drop, map, slice_get, slice_index_or, Vec, Some, refl, sym, ap, subst, ◌∙◌, arith}
 use Rattle.std.proofs.lemmas.List.{length-map}
 use Rattle.std.proofs.lemmas.Option.{same_Some, slice_get-get_or}
 use Rattle.cd_base.specs.declared.hash.Hash256.{Hash256}
@@ -10,8 +10,8 @@ use Rattle.cd_feed.specs.declared.feed.Task.{Task}
 use Rattle.cd_run.specs.declared.outcome.Outcome.{Outcome}
 use Rattle.cd_run.specs.ReportText.{ends_of, IsBeside, AreBeside}
 use Rattle.cd_lanes.specs.Lanes.{TasksRun}
-use Rattle.cd_replay.specs.Ran.{PartRun, PhasesRun}
-use Rattle.cd_replay.proofs.FeedLaws.{ends_beside}
+use Rattle.cd_lanes.specs.Phases.{PartRun, PhasesRun}
+use Rattle.cd_lanes.proofs.PhaseRuns.{ends_beside}
 
 -- an element of a list that was gone over
 at-of-map : {A B : Type 0} (f : A → B) (xs : List A) (k : ℕ) (d : A) → k < length xs → slice_get (map f xs) k ≡ Some (f (slice_index_or xs k d))
@@ -33,7 +33,7 @@ module _ {X : Type 0} (digest : List ℕ → Hash256) where
         each = λ k d lt.
             let found = run.each k (slice_index_or workers k []) (slice_get-get_or workers k [] lt) in
             let its = same_Some found.0 (let w = slice_index_or ends k d in w.items) (sym found.1 ∙ at-of-map (λ w. w.items) ends k d (omega (arith, lt, long))) in
-            ap length (sym its) ∙ tasks-beside (pins k) n k 0 (slice_index_or workers k []) _ found.0 found.2;
+            (let w = slice_index_or ends k d in w.ok.0) ∙ ap length (sym its) ∙ tasks-beside (pins k) n k 0 (slice_index_or workers k []) _ found.0 found.2;
       }
 
   each-beside : {Y Z : Type 0} (pins : ℕ → List Named) (n : ℕ) (phases : List Phase) (es : List (Entry X)) (ends : List (Vec (Vec Outcome Z) Y)) → PhasesRun digest pins n phases es (ends_of ends)

@@ -1,5 +1,5 @@
 -- A feed that was done over a core, and what was told of it, row by row of the table.
-use Rattle.std.proofs.Common.{◌≡◌, ◌⊎◌, inl, inr, ℕ, Bool, true, false, ◌||◌, List, [], ◌∷◌, ◌++◌, length, Option, Some, refl, sym, ap, subst, ◌∙◌, arith}
+use Rattle.std.proofs.Common.{◌≡◌, inl, inr, ℕ, Bool, true, false, ◌||◌, List, [], ◌∷◌, ◌++◌, length, Option, Some, refl, sym, ap, subst, ◌∙◌, arith}
 use Rattle.std.specs.List.{list_any}
 use Rattle.std.proofs.Math.Dec.{eqb}
 use Rattle.std.proofs.lemmas.Bool.{eqb-true, eqb-false}
@@ -20,14 +20,15 @@ use Rattle.cd_run.specs.Covers.{CutEarly}
 use Rattle.cd_run.specs.Runs.{has_failed}
 use Rattle.cd_run.proofs.CoverLaws.{covers-cut}
 use Rattle.cd_run.proofs.EarlyLaws.{covers_prefix-cut}
-use Rattle.cd_replay.specs.Left.{LeftByOne, PhaseServed}
-use Rattle.cd_replay.specs.Ran.{FeedDone, FeedStopped, PhasesRun, pins_in}
-use Rattle.cd_replay.proofs.FeedLaws.{cut_of_phases}
+use Rattle.cd_lanes.specs.Left.{LeftByOne, PhaseServed}
+use Rattle.cd_lanes.specs.Phases.{PhasesRun}
+use Rattle.cd_replay.specs.Ran.{FeedDone, FeedStopped, pins_in}
+use Rattle.cd_lanes.proofs.PhaseRuns.{cut_of_phases}
 use Rattle.cd_command.specs.declared.status.Status.{Status}
 use Rattle.cd_command.specs.declared.status.Status.TheVariants as status
 use Rattle.cd_command.specs.Printing.{NoFault, PrintingEnds, HasGot, HasFailed}
 use Rattle.cd_feed_call.specs.Telling.{IsUntotalled, status_by}
-use Rattle.cd_feed_call.specs.Told.{AreDone, AreBegun, IsReported, IsUntold, IsWritten, FeedEnds}
+use Rattle.cd_feed_call.specs.Told.{AreDone, AreBegun, IsReported, IsWritten, FeedEnds}
 
 -- an entry was failed where any was
 pub failed-any : {X : Type 0} (journal : List (Entry X)) → list_any (λ e. is_keeper (Some e.reply)) journal ≡ has_failed journal
@@ -68,14 +69,14 @@ module _ (H : List ℕ → Hash256) {K X C O : Type 0} (held : K → Option Cont
       → FeedEnds H held got steady start journal feed clients left o out out_after before now end
   untold-ends status.KeeperFault rose same = (let later = caused.later in omega (arith, rose, later), inr (record { ends = ends; done = done; sink = same }))
   untold-ends status.Memory stood same = (inr (record { ends = ends; done = done; sink = same }), subst (RisesOnly (has_failed journal) before) (sym stood) caused)
-  untold-ends status.Ok no same = absurd no
-  untold-ends (status.Usage fault) no same = absurd no
-  untold-ends (status.BadInput fault) no same = absurd no
-  untold-ends (status.Damaged fault) no same = absurd no
-  untold-ends status.ReadFault no same = absurd no
-  untold-ends status.WriteFault no same = absurd no
-  untold-ends status.ClientFault no same = absurd no
-  untold-ends (status.Refused why) no same = absurd no
+  untold-ends status.Ok other same = absurd other
+  untold-ends (status.Usage fault) other same = absurd other
+  untold-ends (status.BadInput fault) other same = absurd other
+  untold-ends (status.Damaged fault) other same = absurd other
+  untold-ends status.ReadFault other same = absurd other
+  untold-ends status.WriteFault other same = absurd other
+  untold-ends status.ClientFault other same = absurd other
+  untold-ends (status.Refused why) other same = absurd other
 
   -- the text was written
   module _ (totals : Totals) (are : AreTotals held H start journal totals) (text : List ℕ) (is : text ≡ report_text feed ends totals) (stood : NoFault mid now) where

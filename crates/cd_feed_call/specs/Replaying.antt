@@ -9,8 +9,6 @@ use Rattle.cd_event.specs.declared.entry.Entry.{Entry}
 use Rattle.cd_core.specs.declared.start.CoreStart.{CoreStart}
 use Rattle.cd_feed.specs.declared.feed.Feed.{Feed}
 use Rattle.cd_command.specs.declared.status.Status.{Status}
-use Rattle.cd_command.specs.declared.status.Status.TheVariants as status
-use Rattle.cd_command.specs.declared.status.InputFault.TheVariants as input
 use Rattle.cd_command.specs.Untouched.{AreSame}
 use Rattle.cd_command.specs.Opening.{IsOpening, IsUnopenedBy, LeadOn}
 use Rattle.cd_feed_call.specs.Feeding.{IsNoFeed, IsOfFeed}

@@ -16,8 +16,8 @@ use Rattle.cd_run.specs.declared.outcome.Outcome.{Outcome}
 use Rattle.cd_run.specs.Covers.{CoversBy, CoversPrefixBy}
 use Rattle.cd_run.specs.ReportText.{report_text}
 use Rattle.cd_run.specs.Runs.{has_failed}
-use Rattle.cd_replay.specs.Left.{LeftByOne, PhaseServed}
-use Rattle.cd_replay.specs.Ran.{PhasesRun}
+use Rattle.cd_lanes.specs.Left.{LeftByOne, PhaseServed}
+use Rattle.cd_lanes.specs.Phases.{PhasesRun}
 use Rattle.cd_command.specs.declared.status.Status.{Status}
 use Rattle.cd_command.specs.declared.status.Status.TheVariants as status
 use Rattle.cd_command.specs.Printing.{NoFault, HasGot, HasFailed}
