@@ -1,4 +1,5 @@
 pub mod StatusText
 pub mod Printing
 pub mod Untouched
+pub mod Naming
 pub mod Opening
