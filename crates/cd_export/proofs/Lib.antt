@@ -1,0 +1,3 @@
+pub mod OnOpened
+pub mod PinTrees
+pub mod ServeRuns
