@@ -14,7 +14,7 @@ use Rattle.cd_count.specs.SoundContents.{AreSoundContents}
 use Rattle.cd_core.specs.declared.start.CoreStart.{CoreStart}
 use Rattle.cd_core.specs.Cores.{CoreView, IsCore, IsHeld, batched}
 use Rattle.cd_restart.specs.OpenEnds.{IsOpenedCore}
-use Rattle.cd_command.specs.Opening.{IsOpening, LeadsTo}
+use Rattle.cd_command.specs.Opening.{IsOpening, LeadOn, LeadsTo}
 
 module _ (H : List ℕ → Hash256) {K X : Type 0} (k : KeeperGhosts K) (old : K) (core : CoreView K X)
     (is : IsOpenedCore H k old GREATEST_COUNT core) (kept : IsCore k.held H k.trail k.batches k.faults core.start core.journal core.keeper) where
@@ -45,22 +45,25 @@ module _ (H : List ℕ → Hash256) {K X : Type 0} (k : KeeperGhosts K) (old : K
   told-on (Some contents) w journal now told = told
 
   -- entries that were made since lead on from there
-  pub leads-to : (start : CoreStart K) (journal : List (Entry X)) (now : K) → start ≡ core.start
-      → IsCore k.held H k.trail k.batches k.faults start journal now → LeadsTo H k journal old now
-  leads-to start journal now same since =
+  pub leads-on : (start : CoreStart K) (journal : List (Entry X)) (now : K) → start ≡ core.start
+      → IsCore k.held H k.trail k.batches k.faults start journal now → LeadOn H k start.world.value journal core.keeper now
+  leads-on start journal now same since =
       let begun : start.keeper.value ≡ core.keeper = ap (λ (s : CoreStart K). s.keeper.value) same ∙ is.begun in
-      let world : start.world.value ≡ core.start.world.value = ap (λ (s : CoreStart K). s.world.value) same in
       let limit : start.limit ≡ GREATEST_COUNT = ap (λ (s : CoreStart K). s.limit) same ∙ is.limited in
       record {
-        world = start.world.value;
-        mid = core.keeper;
-        opened = subst (λ w. IsOpening H k w old core.keeper) (sym world) opening-of;
-        on = record {
-          follow = since.follow;
-          batches = since.is_batches ∙ ap (λ x. batched journal (k.batches x)) begun;
-          silent = λ none. since.silent (ap k.held begun ∙ none);
-          told = told-on (k.held core.keeper) start.world.value journal now
-              (subst (λ l. IfSome (option_map (λ contents. told_in contents start.world.value) (k.held core.keeper)) (λ t. IsHeld k.held H k.trail l t journal core.keeper now)) limit
-              (subst (λ (x : K). IfSome (option_map (λ contents. told_in contents start.world.value) (k.held x)) (λ t. IsHeld k.held H k.trail start.limit t journal x now)) begun since.told));
-        };
+        follow = since.follow;
+        batches = since.is_batches ∙ ap (λ x. batched journal (k.batches x)) begun;
+        silent = λ none. since.silent (ap k.held begun ∙ none);
+        told = told-on (k.held core.keeper) start.world.value journal now
+            (subst (λ l. IfSome (option_map (λ contents. told_in contents start.world.value) (k.held core.keeper)) (λ t. IsHeld k.held H k.trail l t journal core.keeper now)) limit
+            (subst (λ (x : K). IfSome (option_map (λ contents. told_in contents start.world.value) (k.held x)) (λ t. IsHeld k.held H k.trail start.limit t journal x now)) begun since.told));
       }
+
+  pub leads-to : (start : CoreStart K) (journal : List (Entry X)) (now : K) → start ≡ core.start
+      → IsCore k.held H k.trail k.batches k.faults start journal now → LeadsTo H k journal old now
+  leads-to start journal now same since = record {
+    world = start.world.value;
+    mid = core.keeper;
+    opened = subst (λ w. IsOpening H k w old core.keeper) (sym (ap (λ (s : CoreStart K). s.world.value) same)) opening-of;
+    on = leads-on start journal now same since;
+  }

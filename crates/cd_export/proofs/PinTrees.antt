@@ -1,11 +1,10 @@
 -- The one pin that a serve gets holds the state of its block.
-use Rattle.std.proofs.Common.{◌≡◌, ⊎_elim, ℕ, ◌==◌, Bool, true, false, cond, List, [], ◌∷◌, ◌++◌, map, Option, Some, None, refl, sym, ap, ap₂, subst, ◌∙◌, append-nil}
+use Rattle.std.proofs.Common.{◌≡◌, ⊎_elim, ℕ, ◌==◌, Bool, true, false, cond, List, [], ◌∷◌, ◌++◌, map, Option, Some, None, refl, sym, ap, ap₂, subst, append-nil}
 use Rattle.std.specs.Option.{option_map, option_to_list}
 use Rattle.std.proofs.lemmas.Option.{none-some, same_Some}
 use Rattle.cd_base.specs.declared.hash.Hash256.{Hash256}
 use Rattle.cd_block.specs.declared.block.BlockId.{BlockId}
 use Rattle.cd_block.specs.declared.description.Descr.{Descr}
-use Rattle.cd_cell.specs.Tree.{Tree}
 use Rattle.cd_event.specs.declared.entry.Entry.{Entry}
 use Rattle.cd_event.specs.declared.entry.Reply.{Reply}
 use Rattle.cd_event.specs.declared.entry.Reply.TheVariants as reply
@@ -20,7 +19,7 @@ use Rattle.cd_world.specs.declared.world.World.{World}
 use Rattle.cd_world.specs.Machine.{root_info, after}
 use Rattle.cd_world.specs.Standing.{kept_at}
 use Rattle.cd_world.specs.Told.{ToldWorld, told_after}
-use Rattle.cd_core.specs.Workers.{given, is_own, naming, named_from}
+use Rattle.cd_core.specs.Workers.{given, is_own, named_from}
 use Rattle.cd_command.specs.Naming.{first_task}
 use Rattle.cd_export.specs.ExportCall.{AreBegun, served, unserved}
 

@@ -1,5 +1,5 @@
 -- The ways of a serve on an opened core: its entries, and how each ends.
-use Rattle.std.proofs.Common.{◌≡◌, ◌⊎◌, ⊎_elim, inl, inr, ℕ, Bool, true, false, not, List, [], ◌∷◌, ◌++◌, Option, Some, None, Result, Ok, Err, IfSome, refl, sym, ap, subst, ◌∙◌, append-nil}
+use Rattle.std.proofs.Common.{◌≡◌, ◌⊎◌, inl, inr, ℕ, Bool, true, false, not, List, [], ◌∷◌, ◌++◌, Option, Some, None, Result, Ok, Err, IfSome, refl, sym, ap, subst, ◌∙◌, append-nil}
 use Rattle.std.specs.Prelude.{nat_lt}
 use Rattle.std.specs.Option.{option_or}
 use Rattle.std.proofs.lemmas.Option.{same_Some}
@@ -9,7 +9,6 @@ use Rattle.cd_block.specs.declared.block.BlockId.{BlockId}
 use Rattle.cd_block.specs.declared.description.Descr.{Descr}
 use Rattle.cd_cell.specs.Tree.{Tree}
 use Rattle.cd_event.specs.declared.entry.Entry.{Entry}
-use Rattle.cd_event.specs.declared.entry.Reply.{Reply}
 use Rattle.cd_event.specs.declared.entry.Reply.TheVariants as reply
 use Rattle.cd_event.specs.declared.refusal.Refusal.{Refusal}
 use Rattle.cd_event.specs.declared.refusal.Refusal.TheVariants as store
@@ -26,7 +25,7 @@ use Rattle.cd_run.specs.declared.outcome.Outcome.TheVariants as outcome
 use Rattle.cd_run.specs.declared.outcome.TaskRefusal.{TaskRefusal}
 use Rattle.cd_run.specs.declared.outcome.TaskRefusal.TheVariants as word
 use Rattle.cd_run.specs.Finds.{IsExported, IsTooBig, ServeFinds}
-use Rattle.cd_run.specs.Runs.{PinRun, LooksRun, TaskAnswers, TaskBegun, IsAnyNumber, has_failed, let_go_end, pinned_as, not_pinned, unpinned_as, block_not_pinned, let_go, looked, look_failed}
+use Rattle.cd_run.specs.Runs.{PinRun, TaskAnswers, TaskBegun, IsAnyNumber, has_failed, let_go_end, pinned_as, not_pinned, unpinned_as, block_not_pinned, let_go, looked, look_failed}
 use Rattle.cd_run.specs.Words.{word_of}
 use Rattle.cd_run.proofs.StageLaws.{failed_first, failed_last}
 use Rattle.cd_command.specs.Naming.{first_task}

@@ -59,11 +59,13 @@ pub fn tell<O: Sink>(alloc: Global, answer: &Result<Outcome, Memory>, out: &mut 
     ensures { TellingEnds O.Sink answer.now out.old out.new result }
 {
     match answer {
-        Ok(Outcome::Serve {
-            bytes,
-            done,
-            failed,
-        }) => tell_served(alloc, *bytes, *done, *failed, out),
+        Ok(
+            Outcome::Serve {
+                bytes,
+                done,
+                failed,
+            },
+        ) => tell_served(alloc, *bytes, *done, *failed, out),
         Ok(Outcome::Refused(why)) => status_of(*why),
         Ok(_) => unreachable!(),
         Err(_) => Status::Memory,
