@@ -64,6 +64,10 @@ module _ (H : List ℕ → Hash256) {K X : Type 0} (k : KeeperGhosts K) (old : K
             (ap (λ (s : CoreStart K). s.limit) same ∙ is.limited) since.told);
       }
 
+  pub leads-on : (start : CoreStart K) (journal : List (Entry X)) (now : K) → start ≡ core.start
+      → IsCore k.held H k.trail k.batches k.faults start journal now → LeadOn H k start.world.value journal core.keeper now
+  leads-on start journal now same since = subst (λ x. LeadOn H k start.world.value journal x now) (begun start same) (led-on start same journal now since)
+
   pub leads-to : (start : CoreStart K) (journal : List (Entry X)) (now : K) → start ≡ core.start
       → IsCore k.held H k.trail k.batches k.faults start journal now → LeadsTo H k journal old now
   leads-to start journal now same since = record {

@@ -3,6 +3,7 @@
 
 mod finished;
 mod limits;
+mod naming;
 mod opening;
 mod printing;
 mod reading;
@@ -11,6 +12,7 @@ mod status;
 pub use cd_words::WordFault;
 pub use finished::Finished;
 pub use limits::INPUT_LIMIT;
+pub use naming::FIRST_TASK;
 pub use opening::open_store;
 pub use printing::print;
 pub use reading::read_input;

@@ -14,6 +14,8 @@ use Rattle.cd_command.specs.declared.status.Status.{Status}
 use Rattle.cd_command.specs.declared.status.Status.TheVariants as status
 use Rattle.cd_command.specs.Untouched.{AreSame}
 use Rattle.cd_zero.specs.ZeroCall.{ZeroEnds}
+use Rattle.cd_export.specs.ExportCall.{ExportEnds}
+use Rattle.cd_feed_call.specs.Replaying.{ReplayEnds}
 use Rattle.cd_upkeep.specs.CheckCall.{CheckEnds}
 use Rattle.cd_upkeep.specs.MigrateCall.{MigrateEnds}
 use Rattle.cd_top.specs.declared.work.Work.{Work}
@@ -23,12 +25,12 @@ use Rattle.cd_top.specs.FeedCall.{FeedEnds}
 -- what a command asks for, over the keeper that its words name; none where its work isn't there yet
 abbrev pub work_by : Command → Option Work
 work_by (command.Zero workchain file db) = Some (work.Zero (record { workchain = workchain; file = file }))
+work_by (command.Replay db to) = Some work.Replay
 work_by (command.Check db) = Some work.Check
 work_by (command.Migrate db) = Some work.Migrate
+work_by (command.Export id max db to) = Some (work.Export id max)
 work_by (command.Gen number) = Some (work.Gen number)
-work_by (command.Replay db to) = None
 work_by (command.Run db to) = None
-work_by (command.Export id max db to) = None
 
 -- the words are a command that asks for this
 abbrev pub IsLineOf : Work → List (List ℕ) → Type 0
@@ -58,10 +60,14 @@ module _ (H : List ℕ → Hash256) {S O K X C : Type 0} (s : SourceGhosts S) (o
   abbrev pub WorkEnds : Work → S → S → O → O → K → K → List C → List C → List (Entry X) → Status → Type 0
   WorkEnds (work.Zero name) i j out out_after keeper keeper_after clients left journal end =
       ZeroEnds H s o k name i j out out_after keeper keeper_after journal end × (left ≡ clients)
+  WorkEnds work.Replay i j out out_after keeper keeper_after clients left journal end =
+      ReplayEnds H s o k got steady i j out out_after keeper keeper_after clients left journal end
   WorkEnds work.Check i j out out_after keeper keeper_after clients left journal end =
       CheckEnds H k o out out_after keeper keeper_after end × (j ≡ i) × (journal ≡ []) × (left ≡ clients)
   WorkEnds work.Migrate i j out out_after keeper keeper_after clients left journal end =
       MigrateEnds H k o out out_after keeper keeper_after end × (j ≡ i) × (journal ≡ []) × (left ≡ clients)
+  WorkEnds (work.Export id max) i j out out_after keeper keeper_after clients left journal end =
+      ExportEnds H k o got steady id out out_after keeper keeper_after clients left journal end × (j ≡ i)
   WorkEnds (work.Gen number) i j out out_after keeper keeper_after clients left journal end =
       FeedEnds o number out out_after end × (j ≡ i) × (keeper_after ≡ keeper) × (journal ≡ []) × (left ≡ clients)
 

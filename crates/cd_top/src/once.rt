@@ -1,6 +1,7 @@
 ghost use Rattle.std.specs.Prelude.{map, string_bytes};
 ghost use Rattle.cd_fan.specs.Fans.{HaveGotBytes};
 ghost use Rattle.cd_top.specs.Call.{Ends, WorkEnds};
+ghost use Rattle.cd_top.specs.Within.{IsWithin};
 
 use crate::ended::Ended;
 use crate::feed::print_feed;
@@ -8,7 +9,9 @@ use crate::work::{Work, work_of};
 use cd_base::{Sink, Source};
 use cd_cell::Hash32;
 use cd_command::Finished;
+use cd_export::export;
 use cd_fan::{Client, SliceClient};
+use cd_feed_call::replay;
 use cd_keeper::Keeper;
 use cd_upkeep::{check, migrate_store};
 use cd_zero::zero;
@@ -17,8 +20,9 @@ use std::alloc::Global;
 /// One call of the program: `words` are the words behind its name, and the keeper is the one that `--db` names, or else an
 /// empty one. `zero` reads a bag of cells to the end of the input, stores the state as a zero state in one batch, and
 /// writes the block's name and the number of its cells. `check` reads the whole store and writes how much it holds.
-/// `migrate` rewrites old records. `gen` writes the text of the feed of a number, and asks nothing of the keeper. The other
-/// commands are a usage fault, and nothing is asked of the objects. No client is asked for anything: the list is given back.
+/// `migrate` rewrites old records. `export` sends the bag of a block's state to the clients, and takes those out of the list
+/// that fail. `gen` writes the text of the feed of a number, and asks nothing of the keeper. The other commands are a usage
+/// fault, and nothing is asked of the objects. Every command but `export` leaves the clients alone.
 ///
 /// Want of memory alone is free; what each other status says stands in `Ends`.
 pub fn celldb_once<S: Source, O: Sink, K: Keeper, H: Hash32>(
@@ -76,6 +80,7 @@ fn work_on<S: Source, O: Sink, K: Keeper, H: Hash32>(
     keeper: K,
     clients: &mut Vec<Client>,
 ) -> Finished<K, H>
+    requires within { IsWithin work }
     requires fresh { HaveGotBytes (λ c. got c) 0 clients.old.items }
     ensures { WorkEnds H.digest_of S.Source O.Sink K.Keeper (λ c. got c) (λ c. steady c) work
         input.old input.new out.old out.new keeper result.keeper clients.old.items clients.new.items
@@ -83,8 +88,10 @@ fn work_on<S: Source, O: Sink, K: Keeper, H: Hash32>(
 {
     match work {
         Work::Zero(name) => zero(alloc, name, input, out, keeper),
+        Work::Replay => replay(alloc, input, out, keeper, clients),
         Work::Check => check(alloc, out, keeper),
         Work::Migrate => migrate_store(alloc, out, keeper),
+        Work::Export { id, max } => export(alloc, id, max, out, keeper, clients),
         Work::Gen(number) => Finished::of(alloc, print_feed(alloc, number, out), keeper),
     }
 }

@@ -25,7 +25,8 @@ use Rattle.cd_command.specs.Printing.{HasGot, HasFailed, PrintingEnds}
 use Rattle.cd_command.specs.Opening.{IsUnopenedBy, LeadsTo}
 use Rattle.cd_zero.specs.declared.name.ZeroName.{ZeroName}
 use Rattle.cd_zero.specs.Storing.{TellingEnds}
-use Rattle.cd_zero.specs.Zero.{first_task, zero_id, zero_text, status_by_store, state_at, IsListOf}
+use Rattle.cd_command.specs.Naming.{first_task}
+use Rattle.cd_zero.specs.Zero.{zero_id, zero_text, status_by_store, state_at, IsListOf}
 use Rattle.cd_zero.specs.ZeroCall.{IsEntry, IsStored, StoringEnds}
 use Rattle.cd_zero.proofs.FirstStores.{first-stored}
 

@@ -29,7 +29,8 @@ use Rattle.cd_command.specs.declared.status.Status.TheVariants as status
 use Rattle.cd_command.specs.declared.status.InputFault.TheVariants as input
 use Rattle.cd_command.specs.declared.status.TopRefusal.TheVariants as refusal
 use Rattle.cd_zero.specs.declared.name.ZeroName.{ZeroName}
-use Rattle.cd_zero.specs.Zero.{first_task, zero_id, zero_world, zero_text, state_at, IsListOf}
+use Rattle.cd_command.specs.Naming.{first_task}
+use Rattle.cd_zero.specs.Zero.{zero_id, zero_world, zero_text, state_at, IsListOf}
 
 module _ (H : List ℕ → Hash256) where
   -- the bytes are a bag of this one tree, and its root is of level 0
