@@ -2,7 +2,9 @@
 #![tactic(auto)]
 
 mod feed;
+mod laws;
 mod phase;
 mod worker;
 
 pub use feed::do_feed;
+pub use laws::{a_done_feed_is_covered, a_stopped_feed_is_covered_so_far};
