@@ -1,5 +1,5 @@
 -- The journal of a core that did a feed covers the feed.
-use Rattle.std.proofs.Common.{◌≡◌, ℕ, ◌==◌, cond, List, [], ◌∷◌, ◌++◌, Option, Some, None, refl, sym, ap, ap₂, ◌∙◌, subst}
+use Rattle.std.proofs.Common.{◌≡◌, ℕ, ◌==◌, cond, false, All, List, [], ◌∷◌, ◌++◌, Option, Some, None, refl, sym, ap, ap₂, ◌∙◌, subst}
 use Rattle.std.proofs.lemmas.Option.{none-some, same_Some}
 use Rattle.std.specs.Option.{option_map}
 use Rattle.cd_base.specs.declared.hash.Hash256.{Hash256}
@@ -11,17 +11,20 @@ use Rattle.cd_event.specs.declared.event.Event.{Event}
 use Rattle.cd_event.specs.declared.event.Event.TheVariants as event
 use Rattle.cd_event.specs.Pins.{Named}
 use Rattle.cd_world.specs.declared.world.World.{World}
+use Rattle.cd_world.specs.Standing.{IsTidy}
 use Rattle.cd_world.specs.Told.{ToldWorld, told_after}
 use Rattle.cd_world.specs.Unfolded.{told_in}
-use Rattle.cd_core.specs.Cores.{CoreView, told_start}
+use Rattle.cd_core.specs.declared.start.CoreStart.{CoreStart}
+use Rattle.cd_core.specs.Cores.{CoreView, told_start, world_after, world_of}
 use Rattle.cd_core.specs.Workers.{named_from}
 use Rattle.cd_core.specs.Workers.{given as given_in}
 use Rattle.cd_run.specs.Covers.{given_by, given, CoversBy, CoversPrefixBy}
 use Rattle.cd_run.proofs.CoverLaws.{covers-cut}
 use Rattle.cd_run.proofs.EarlyLaws.{covers_prefix-cut}
+use Rattle.cd_lanes.proofs.FreeLaws.{leaves_free}
 use Rattle.cd_lanes.proofs.PhaseRuns.{cut_of_phases}
 use Rattle.cd_replay.specs.Ran.{Grew, pins_in}
-use Rattle.cd_replay.specs.Covered.{DoneCovers, DoneCoversTold, StoppedCovers, StoppedCoversTold}
+use Rattle.cd_replay.specs.Covered.{DoneCovers, DoneCoversTold, DoneLeavesFree, StoppedCovers, StoppedCoversTold}
 
 module _ {X : Type 0} where
   -- the pin that an entry gives, by the world and its trees, or by both in one
@@ -80,3 +83,14 @@ module _ {K X : Type 0} (digest : List ℕ → Hash256) (held : K → Option Con
   pub stopped_covers_told : StoppedCoversTold digest held faults X
   stopped_covers_told feed old new t did none is =
       subst (λ (pins : ℕ → List Named). CoversPrefixBy digest pins feed new.journal) (λ i worker. told_pins new t is worker i) (stopped_covers feed old new did none)
+
+-- ---- no pin is left
+
+pub done_leaves_free : {K : Type 0} (digest : List ℕ → Hash256) (held : K → Option Contents) (trail : K → Option (List Contents)) (batches faults : K → ℕ) (X : Type 0) → DoneLeavesFree digest held trail batches faults X
+done_leaves_free digest held trail batches faults X feed ends old new before now did none kept good =
+    let w = (let s = new.start in s.world.value) in
+    let at_start : world_of old ≡ w = ap (world_after old.start) none ∙ ap (λ (s : CoreStart _). s.world.value) (sym did.start) in
+    let pins = pins_in digest held new in
+    leaves_free digest X pins feed.phases w new.journal (subst IsTidy at_start (let is = before.writable in is.tidy))
+    (record { no_pins = now.no_pins; none_leaving = subst (λ (v : World). All (λ d. d.leaving ≡ false) v.blocks) at_start kept }) now.follow
+    (cut_of_phases digest pins 0 feed.phases new.journal ends (are_all digest held faults _ old new did none)) good

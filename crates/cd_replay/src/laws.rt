@@ -1,5 +1,5 @@
 //! What a done feed makes of a core, as contracts of functions that do nothing.
-ghost use Rattle.cd_replay.specs.Covered.{DoneCovers, DoneCoversTold, StoppedCovers, StoppedCoversTold};
+ghost use Rattle.cd_replay.specs.Covered.{DoneCovers, DoneCoversTold, DoneLeavesFree, StoppedCovers, StoppedCoversTold};
 
 use cd_cell::Hash32;
 use cd_keeper::Keeper;
@@ -14,4 +14,9 @@ pub fn a_done_feed_is_covered<K: Keeper, H: Hash32>()
 pub fn a_stopped_feed_is_covered_so_far<K: Keeper, H: Hash32>()
     ensures by_pins { StoppedCovers H.digest_of K.held K.faults H }
     ensures told { StoppedCoversTold H.digest_of K.held K.faults H }
+{}
+
+/// Where the keeper failed no entry, a done feed leaves no pin, and no block that waits for the end of one.
+pub fn a_done_feed_leaves_a_core_free<K: Keeper, H: Hash32>()
+    ensures { DoneLeavesFree H.digest_of K.held K.trail K.batches K.faults H }
 {}
