@@ -1,6 +1,6 @@
 -- What tasks leave of the clients, one task more.
-use Rattle.std.proofs.Common.{◌≡◌, ◌⊎◌, inl, inr, ⊎_elim, ℕ, zero, suc, ◌+◌, ◌<◌, ◌≤◌, Bool, true, false, cond, List, [], ◌∷◌, ◌++◌, length, take, drop, get_or, slice_get, Option, Some, None, Result, Ok, Err, refl, sym, ap, subst, ◌∙◌, arith, length-append}
-use Rattle.std.proofs.lemmas.List.{take_more, drop_more, take-append-drop, length-take}
+use Rattle.std.proofs.Common.{◌≡◌, inl, inr, ⊎_elim, ℕ, suc, ◌+◌, ◌<◌, ◌≤◌, Bool, true, cond, List, [], ◌∷◌, ◌++◌, length, take, drop, get_or, slice_get, Option, Some, Result, Ok, refl, sym, ap, subst, ◌∙◌, arith}
+use Rattle.std.proofs.lemmas.List.{take_more, drop_more, take-append-drop}
 use Rattle.std.proofs.lemmas.List.Sums.{sum_by-append}
 use Rattle.std.proofs.lemmas.Option.{none-some, same_Some, slice_get_within}
 use Rattle.cd_base.specs.declared.answers.Memory.{Memory}
@@ -13,20 +13,10 @@ use Rattle.cd_feed.specs.declared.feed.Task.{Task}
 use Rattle.cd_feed.specs.declared.feed.Task.TheVariants as task
 use Rattle.cd_feed.specs.Feeds.{is_serve}
 use Rattle.cd_run.specs.declared.outcome.Outcome.{Outcome}
-use Rattle.cd_run.specs.Clients.{Sent, MayServe, LeavesClients, Serves}
+use Rattle.cd_run.specs.Clients.{Sent, MayServe, LeavesClients, Serves, IsUnserved}
 use Rattle.cd_lanes.specs.Lanes.{serves, TasksRun, IsServed, LeavesAll}
+use Rattle.cd_lanes.proofs.LeftLaws.{get_before, get_last}
 use Rattle.cd_lanes.proofs.PinLaws.{found}
-
--- ---- places
-
-pub get_before : {A : Type 0} (xs ys : List A) (i : ℕ) → i < length xs → slice_get (xs ++ ys) i ≡ slice_get xs i
-get_before [] ys i lt = absurd (omega arith)
-get_before (x ∷ xs) ys zero lt = refl
-get_before (x ∷ xs) ys (suc i) lt = get_before xs ys i (omega arith)
-
-pub get_last : {A : Type 0} (xs : List A) (x : A) (ys : List A) → slice_get (xs ++ x ∷ ys) (length xs) ≡ Some x
-get_last [] x ys = refl
-get_last (y ∷ xs) x ys = get_last xs x ys
 
 -- ---- serves
 
@@ -82,7 +72,7 @@ module _ {C : Type 0} (got : C → Option (List ℕ)) (steady : C → Bool) (dig
   serve_left id max is serve =
       let count = serves_with jobs job later ∙ ap (λ b. serves jobs + (cond b 1 0 + serves later)) (ap is_serve is ∙ is_one id max) in
       let same = untouched (omega (arith, count, one)) in
-      ⊎_elim (λ (none : new ≡ mid). inl (none ∙ same))
+      ⊎_elim (λ (none : (new ≡ mid) × IsUnserved result). inl (none.0 ∙ same))
       (λ (s : (m : Named) × (find_pin (pins ++ more) m.number ≡ Some m) × Sent got steady digest m.tree mid new result). inr (record {
         place = length jobs;
         id = id;

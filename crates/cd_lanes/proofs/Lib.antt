@@ -2,3 +2,5 @@ pub mod PinLaws
 pub mod TaskLaws
 pub mod WorkerLaws
 pub mod ClientLaws
+pub mod LeftLaws
+pub mod PhaseRuns

@@ -1,5 +1,5 @@
 -- Trusted: what a worker does in a phase of a feed: its tasks, each with its entries and its end.
-use Rattle.std.specs.Prelude.{◌≡◌, ◌⊎◌, ℕ, ◌+◌, Bool, List, [], ◌∷◌, ◌++◌, count_by, slice_get, Option, Some, Result, Ok, Err}
+use Rattle.std.specs.Prelude.{◌≡◌, ◌⊎◌, ℕ, ◌+◌, Bool, List, [], ◌∷◌, ◌++◌, count_by, slice_get, Option, Some, Result, Ok}
 use Rattle.cd_base.specs.declared.answers.Memory.{Memory}
 use Rattle.cd_base.specs.declared.hash.Hash256.{Hash256}
 use Rattle.cd_block.specs.declared.block.BlockId.{BlockId}
@@ -66,8 +66,3 @@ module _ {C : Type 0} (got : C → Option (List ℕ)) (steady : C → Bool) (dig
   -- what some tasks leave of the clients: what they were, or what the serve left
   abbrev pub LeavesAll : List Task → List Outcome → List C → List C → Type 0
   LeavesAll jobs ends old new = (new ≡ old) ⊎ IsServed jobs ends old new
-
--- the outcomes of tasks that are all done; where memory ran out, none
-abbrev pub ended : Result (List Outcome) Memory → List Outcome
-ended (Ok ends) = ends
-ended (Err memory) = []

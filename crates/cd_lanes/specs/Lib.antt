@@ -1,1 +1,3 @@
 pub mod Lanes
+pub mod Phases
+pub mod Left

@@ -1,5 +1,4 @@
 mod OnCore
 mod PinsGrow
 mod PhaseLaws
-mod LeftLaws
 mod FeedLaws

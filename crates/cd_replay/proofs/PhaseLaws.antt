@@ -1,5 +1,5 @@
 -- A phase, one worker more.
-use Rattle.std.proofs.Common.{◌≡◌, ◌≢◌, ◌⊎◌, inl, inr, ⊎_elim, ℕ, zero, suc, ◌+◌, ◌<◌, ◌≤◌, ◌==◌, Bool, true, false, ◌||◌, List, [], ◌∷◌, ◌++◌, length, take, drop, slice_index_or, slice_get, get_or, All, Option, Some, None, refl, sym, ap, ap₂, subst, ◌∙◌, append_assoc, append-nil, length-append, arith, ne_eqb, eq-eqb}
+use Rattle.std.proofs.Common.{◌≡◌, ◌≢◌, ◌⊎◌, inl, inr, ℕ, ◌+◌, ◌<◌, ◌≤◌, ◌==◌, Bool, true, false, List, [], ◌∷◌, ◌++◌, length, take, drop, slice_get, get_or, All, Option, Some, refl, sym, ap, ap₂, subst, ◌∙◌, append_assoc, append-nil, length-append, arith, ne_eqb, eq-eqb}
 use Rattle.std.proofs.lemmas.List.{take_more, drop_more, take-append-drop, length-take}
 use Rattle.std.proofs.lemmas.List.Elements.{filter-append, All-append, All-nil}
 use Rattle.std.proofs.lemmas.Option.{none-some, same_Some, slice_get_within}
@@ -11,7 +11,7 @@ use Rattle.cd_event.specs.Turning.{RisesOnly}
 use Rattle.cd_core.specs.Cores.{CoreView}
 use Rattle.cd_feed.specs.declared.feed.Task.{Task}
 use Rattle.cd_run.specs.declared.outcome.Outcome.{Outcome}
-use Rattle.cd_run.specs.Covers.{name, of_worker, WorkerBegun, PartBegun}
+use Rattle.cd_run.specs.Covers.{of_worker, WorkerBegun, PartBegun}
 use Rattle.cd_run.specs.Runs.{has_failed}
 use Rattle.cd_run.proofs.CoverLaws.{IsTaskFrom, tasks_of_worker}
 use Rattle.cd_run.proofs.EarlyLaws.{tasks_of_begun}
@@ -21,20 +21,13 @@ use Rattle.cd_lanes.specs.Lanes.{TasksRun}
 use Rattle.cd_lanes.proofs.PinLaws.{found}
 use Rattle.cd_lanes.proofs.TaskLaws.{tasks_with_more, events_of_tasks, begun_of_tasks, none_begun}
 use Rattle.cd_lanes.proofs.WorkerLaws.{rises_both}
-use Rattle.cd_replay.specs.Left.{WorkerServed}
-use Rattle.cd_replay.specs.Ran.{Grew, pins_in, PartRun, PhaseDone, PhaseStopped, WorkerDone, WorkerStopped}
+use Rattle.cd_lanes.specs.Left.{WorkerServed}
+use Rattle.cd_lanes.specs.Phases.{PartRun}
+use Rattle.cd_lanes.proofs.LeftLaws.{get_before, get_last}
+use Rattle.cd_replay.specs.Ran.{Grew, pins_in, PhaseDone, PhaseStopped, WorkerDone, WorkerStopped}
 use Rattle.cd_replay.proofs.PinsGrow.{more_pins, pins_grow}
 
 -- ---- places of a list with one element more
-
-get_before : {A : Type 0} (xs ys : List A) (i : ℕ) → i < length xs → slice_get (xs ++ ys) i ≡ slice_get xs i
-get_before [] ys i lt = absurd (omega arith)
-get_before (x ∷ xs) ys zero lt = refl
-get_before (x ∷ xs) ys (suc i) lt = get_before xs ys i (omega arith)
-
-get_last : {A : Type 0} (xs : List A) (x : A) (ys : List A) → slice_get (xs ++ x ∷ ys) (length xs) ≡ Some x
-get_last [] x ys = refl
-get_last (y ∷ xs) x ys = get_last xs x ys
 
 length-snoc : {A : Type 0} (xs : List A) (x : A) → length (xs ++ x ∷ []) ≡ length xs + 1
 length-snoc xs x = omega (arith, length-append xs (x ∷ []))

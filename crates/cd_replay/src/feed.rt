@@ -2,7 +2,7 @@ ghost use Rattle.std.specs.Prelude.{[], IfOk, OnErr};
 ghost use Rattle.cd_fan.specs.Fans.{HaveGotBytes};
 ghost use Rattle.cd_feed.specs.Feeds.{IsFeedFit};
 ghost use Rattle.cd_run.specs.ReportText.{ends_of};
-ghost use Rattle.cd_replay.specs.Left.{LeftByOne, PhaseServed};
+ghost use Rattle.cd_lanes.specs.Left.{LeftByOne, PhaseServed};
 ghost use Rattle.cd_replay.specs.Ran.{FeedDone, FeedStopped, pins_in};
 
 use crate::phase::do_phase;

@@ -2,7 +2,7 @@ ghost use Rattle.std.specs.Prelude.{◌≡◌, ◌≤◌, [], length, map, IfOk,
 ghost use Rattle.std.specs.List.{AllByRecursion};
 ghost use Rattle.cd_fan.specs.Fans.{HaveGotBytes};
 ghost use Rattle.cd_feed.specs.Feeds.{IsWorkerFit};
-ghost use Rattle.cd_replay.specs.Left.{LeftByOne, WorkerServed, serves_of};
+ghost use Rattle.cd_lanes.specs.Left.{LeftByOne, WorkerServed, serves_of};
 ghost use Rattle.cd_replay.specs.Ran.{PhaseDone, PhaseStopped, pins_in};
 
 use crate::worker::do_worker;

@@ -33,9 +33,11 @@ fn do_in_turns<'a, K: Keeper, H: Hash32>(
     ensures stopped { OnErr result (WorkerStopped H.digest_of K.held K.faults
         phase worker tasks.now turns.old.core.now turns.new.core.now) }
     ensures clients { IfOk result (λ ends. LeavesAll (λ c. got c) (λ c. steady c) H.digest_of
-        (pins_in H.digest_of K.held turns.new.core.now worker) tasks.now ends.items clients.old.items clients.new.items) }
+        (pins_in H.digest_of K.held turns.new.core.now worker) tasks.now ends.items
+        clients.old.items clients.new.items) }
     ensures clients_then { OnErr result (LeavesAll (λ c. got c) (λ c. steady c) H.digest_of
-        (pins_in H.digest_of K.held turns.new.core.now worker) tasks.now [] clients.old.items clients.new.items) }
+        (pins_in H.digest_of K.held turns.new.core.now worker) tasks.now []
+        clients.old.items clients.new.items) }
     ensures untouched { serves tasks.now ≡ 0 → clients.new.items ≡ clients.old.items }
 {
     do_tasks(alloc, turns, phase, worker, tasks, clients, &NoHoldup)
@@ -58,7 +60,8 @@ pub(crate) fn do_worker<K: Keeper, H: Hash32>(
     ensures stopped { OnErr result (WorkerStopped H.digest_of K.held K.faults
         phase worker tasks.now core.old core.new) }
     ensures clients { IfOk result (λ ends. LeavesAll (λ c. got c) (λ c. steady c) H.digest_of
-        (pins_in H.digest_of K.held core.new worker) tasks.now ends.items clients.old.items clients.new.items) }
+        (pins_in H.digest_of K.held core.new worker) tasks.now ends.items
+        clients.old.items clients.new.items) }
     ensures clients_then { OnErr result (LeavesAll (λ c. got c) (λ c. steady c) H.digest_of
         (pins_in H.digest_of K.held core.new worker) tasks.now [] clients.old.items clients.new.items) }
     ensures untouched { serves tasks.now ≡ 0 → clients.new.items ≡ clients.old.items }

@@ -34,7 +34,7 @@ fn call<S: Source, O: Sink, K: Keeper>(
 ) -> Result<Ended<K, Sha>, Fail> {
     let mut words = Vec::new(alloc);
     words.push(String::from_str(alloc, word)?)?;
-    Ok(celldb_once::<S, O, K, Sha>(alloc, &words, input, out, keeper))
+    Ok(celldb_once::<S, O, K, Sha>(alloc, &words, input, out, keeper, Vec::new(alloc)))
 }
 
 /// The command `zero` over these objects.
@@ -60,6 +60,7 @@ fn told(
         status,
         keeper,
         journal: _,
+        clients: _,
     } = call(alloc, word, &mut input, &mut out, keeper)?;
     Ok((status, out.taken().to_vec(alloc)?, keeper))
 }
@@ -110,6 +111,7 @@ fn one_cell_is_stored_and_printed(rt: HostRuntime) -> Result<(), Fail> {
         status,
         mut keeper,
         journal,
+        clients: _,
     } = zero(alloc, &mut input, &mut out, SteadyKeeper::new(alloc))?;
     assert!(rt; matches!(status, Status::Ok));
     assert!(rt; out.taken() == EMPTY_LINES.as_bytes());
@@ -134,6 +136,7 @@ fn a_child_in_four_places_counts_four(rt: HostRuntime) -> Result<(), Fail> {
         status,
         mut keeper,
         journal,
+        clients: _,
     } = zero(alloc, &mut input, &mut out, SteadyKeeper::new(alloc))?;
     assert!(rt; matches!(status, Status::Ok));
     assert!(rt; is_only_entry(&journal, 2, true));
@@ -160,6 +163,7 @@ fn a_source_that_fails_in_mid_stream_stores_nothing(rt: HostRuntime) -> Result<(
         status,
         mut keeper,
         journal,
+        clients: _,
     } = zero(alloc, &mut input, &mut out, SteadyKeeper::new(alloc))?;
     assert!(rt; matches!(status, Status::ReadFault));
     assert!(rt; journal.is_empty());
@@ -177,6 +181,7 @@ fn a_sink_that_fails_leaves_the_block_stored(rt: HostRuntime) -> Result<(), Fail
         status,
         mut keeper,
         journal,
+        clients: _,
     } = zero(alloc, &mut input, &mut out, SteadyKeeper::new(alloc))?;
     assert!(rt; matches!(status, Status::WriteFault));
     assert!(rt; is_only_entry(&journal, 1, true));
@@ -196,6 +201,7 @@ fn a_keeper_that_fails_stores_nothing(rt: HostRuntime) -> Result<(), Fail> {
             status,
             mut keeper,
             journal,
+            clients: _,
         } = zero(alloc, &mut input, &mut out, keeper)?;
         let failed = failing < 5;
         assert!(rt; matches!(status, Status::KeeperFault) == failed);

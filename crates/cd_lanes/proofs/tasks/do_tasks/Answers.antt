@@ -1,4 +1,4 @@
-use Rattle.std.proofs.Common.{◌≡◌, ◌∷◌, [], ◌++◌, ◌+◌, take, List, inl, Bool, true, is_ok, not, if◌then◌else◌, Ok, Err, refl, ap, subst, sym, ◌∙◌}
+use Rattle.std.proofs.Common.{◌≡◌, ◌∷◌, [], ◌++◌, ◌+◌, take, List, Bool, true, is_ok, not, if◌then◌else◌, Ok, Err, ap, subst, sym, ◌∙◌}
 use Rattle.std.proofs.lemmas.List.{take_all}
 use Rattle.cd_feed.specs.declared.feed.Task.{Task}
 use Rattle.cd_lanes.specs.Lanes.{serves, WorkerDone, LeavesAll}

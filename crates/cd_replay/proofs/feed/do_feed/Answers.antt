@@ -2,12 +2,12 @@ use Rattle.std.proofs.Common.{◌≡◌, ◌∷◌, [], ◌++◌, ◌+◌, ◌�
 use Rattle.std.proofs.lemmas.List.{map-append, take_all}
 use Rattle.cd_feed.specs.declared.feed.Phase.{Phase}
 use Rattle.cd_feed.specs.declared.feed.Task.{Task}
-use Rattle.cd_run.specs.declared.outcome.Outcome.{Outcome}
 use Rattle.cd_run.specs.ReportText.{ends_of}
-use Rattle.cd_replay.specs.Left.{LeftByOne, WorkerServed, PhaseServed, serves_of}
+use Rattle.cd_lanes.specs.Left.{LeftByOne, WorkerServed, PhaseServed, serves_of}
 use Rattle.cd_replay.specs.Ran.{FeedDone, PhaseDone, PhaseStopped, pins_in}
-use Rattle.cd_replay.proofs.LeftLaws.{one_at, fresh_at, untouched_next, left_next, left_end, its_place, one_more_end, no_end}
-use Rattle.cd_replay.proofs.FeedLaws.{no_phase, next_phase, stopped_phase, phase_unplaced, grow_phase, ends_beside, serves_fit}
+use Rattle.cd_lanes.proofs.LeftLaws.{one_at, fresh_at, untouched_next, left_next, left_end, its_place, one_more_end, no_end}
+use Rattle.cd_lanes.proofs.PhaseRuns.{ends_beside}
+use Rattle.cd_replay.proofs.FeedLaws.{no_phase, next_phase, stopped_phase, phase_unplaced, grow_phase, serves_fit}
 use Rattle.cd_replay.proofs.feed.do_feed.Goals as goal
 
 pub do_phase-requires-clause-one : goal.do_phase-requires-clause-one

@@ -1,6 +1,6 @@
 use Rattle.std.proofs.Common.{◌≡◌, take}
 use Rattle.cd_run.specs.ReportText.{ends_of}
-use Rattle.cd_replay.specs.Left.{LeftByOne, PhaseServed, all_serves}
+use Rattle.cd_lanes.specs.Left.{LeftByOne, PhaseServed, all_serves}
 use Rattle.cd_replay.specs.Ran.{FeedDone, pins_in}
 use Rattle.cd_replay.proofs.feed.do_feed.Given as goal
 

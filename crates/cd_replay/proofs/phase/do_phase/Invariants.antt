@@ -1,5 +1,5 @@
 use Rattle.std.proofs.Common.{◌≡◌, take, map}
-use Rattle.cd_replay.specs.Left.{LeftByOne, WorkerServed, serves_of}
+use Rattle.cd_lanes.specs.Left.{LeftByOne, WorkerServed, serves_of}
 use Rattle.cd_replay.specs.Ran.{PhaseDone, pins_in}
 use Rattle.cd_replay.proofs.phase.do_phase.Given as goal
 

@@ -1,12 +1,22 @@
 -- What parts leave of the clients, one part more.
-use Rattle.std.proofs.Common.{◌≡◌, ◌⊎◌, inl, inr, ⊎_elim, ℕ, zero, suc, ◌+◌, ◌<◌, ◌≤◌, List, [], ◌∷◌, ◌++◌, length, take, drop, get_or, slice_get, Option, Some, None, refl, sym, ap, subst, ◌∙◌, arith}
+use Rattle.std.proofs.Common.{◌≡◌, ◌⊎◌, inl, inr, ⊎_elim, ℕ, zero, suc, ◌+◌, ◌<◌, ◌≤◌, List, [], ◌∷◌, ◌++◌, length, take, drop, get_or, slice_get, Option, Some, refl, sym, ap, subst, ◌∙◌, arith}
 use Rattle.std.specs.Prelude.{sum_by}
 use Rattle.std.proofs.lemmas.List.{take_more, drop_more, take-append-drop, length-take}
 use Rattle.std.proofs.lemmas.List.Sums.{sum_by-append}
 use Rattle.std.proofs.lemmas.Option.{none-some, same_Some, slice_get_within}
 use Rattle.cd_fan.specs.Fans.{HaveGotBytes}
-use Rattle.cd_lanes.proofs.ClientLaws.{get_before, get_last}
-use Rattle.cd_replay.specs.Left.{IsOneOf, LeftByOne}
+use Rattle.cd_lanes.specs.Left.{IsOneOf, LeftByOne}
+
+-- ---- places
+
+pub get_before : {A : Type 0} (xs ys : List A) (i : ℕ) → i < length xs → slice_get (xs ++ ys) i ≡ slice_get xs i
+get_before [] ys i lt = absurd (omega arith)
+get_before (x ∷ xs) ys zero lt = refl
+get_before (x ∷ xs) ys (suc i) lt = get_before xs ys i (omega arith)
+
+pub get_last : {A : Type 0} (xs : List A) (x : A) (ys : List A) → slice_get (xs ++ x ∷ ys) (length xs) ≡ Some x
+get_last [] x ys = refl
+get_last (y ∷ xs) x ys = get_last xs x ys
 
 pub sum_with : {X : Type 0} (f : X → ℕ) (xs : List X) (x : X) (later : List X) → sum_by f (xs ++ x ∷ later) ≡ sum_by f xs + (f x + sum_by f later)
 sum_with f xs x later = omega (arith, sum_by-append f xs (x ∷ later), sum_by-append f (x ∷ []) later)

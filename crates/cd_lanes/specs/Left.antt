@@ -1,6 +1,5 @@
 -- Trusted: what the tasks of a phase and of a feed leave of the clients; of all of them one is a serve at most.
-use Rattle.std.specs.Prelude.{◌≡◌, ◌⊎◌, ℕ, Bool, List, [], ◌∷◌, slice_get, sum_by, Option, Some, Result, Ok, Err}
-use Rattle.cd_base.specs.declared.answers.Memory.{Memory}
+use Rattle.std.specs.Prelude.{◌≡◌, ◌⊎◌, ℕ, Bool, List, slice_get, sum_by, Option, Some}
 use Rattle.cd_base.specs.declared.hash.Hash256.{Hash256}
 use Rattle.cd_event.specs.Pins.{Named}
 use Rattle.cd_feed.specs.declared.feed.Phase.{Phase}
@@ -37,8 +36,3 @@ module _ {C : Type 0} (got : C → Option (List ℕ)) (steady : C → Bool) (dig
   -- that among the tasks of a phase
   abbrev pub PhaseServed : ℕ → Phase → List (List Outcome) → List C → List C → Type 0
   PhaseServed phase p ends old new = IsOneOf WorkerServed p.workers ends old new
-
--- what ended, part by part; where memory ran out, nothing is told
-abbrev pub ends_told : {E : Type 0} → Result (List E) Memory → List E
-ends_told (Ok ends) = ends
-ends_told (Err memory) = []
