@@ -9,10 +9,11 @@ use Rattle.cd_keeper.specs.Contents.{Contents}
 use Rattle.cd_event.specs.declared.entry.Entry.{Entry}
 use Rattle.cd_record.specs.declared.limits.TheConstants.{GREATEST_COUNT}
 use Rattle.cd_world.specs.declared.world.World.{World}
+use Rattle.cd_world.specs.Standing.{IsTidy}
 use Rattle.cd_world.specs.Unfolded.{told_in}
 use Rattle.cd_count.specs.SoundContents.{AreSoundContents}
 use Rattle.cd_core.specs.declared.start.CoreStart.{CoreStart}
-use Rattle.cd_core.specs.Cores.{CoreView, IsCore, IsHeld}
+use Rattle.cd_core.specs.Cores.{CoreView, IsCore, IsHeld, IsWritable, world_after}
 use Rattle.cd_restart.specs.OpenEnds.{IsOpenedCore}
 use Rattle.cd_command.specs.Opening.{IsOpening, LeadOn, LeadsTo}
 
@@ -46,6 +47,11 @@ module _ (H : List ℕ → Hash256) {K X : Type 0} (k : KeeperGhosts K) (old : K
     pub opening-at : IsOpening H k start.world.value old start.keeper.value
     opening-at = subst (λ x. IsOpening H k start.world.value old x) (sym begun)
         (subst (λ w. IsOpening H k w old core.keeper) (sym (ap (λ (s : CoreStart K). s.world.value) same)) opening-of)
+
+    pub tidy-at : IsTidy start.world.value
+    tidy-at =
+        let writable = subst (λ es. IsWritable (world_after core.start es)) is.journal kept.writable in
+        subst (λ (s : CoreStart K). let w = s.world.value in IsTidy w) (sym same) writable.tidy
 
     -- entries that were made since lead on from there
     module _ (journal : List (Entry X)) (now : K) (since : IsCore k.held H k.trail k.batches k.faults start journal now) where

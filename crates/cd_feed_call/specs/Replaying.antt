@@ -1,18 +1,28 @@
 -- Trusted: how the command `replay` ends: what each status says of the input, the output, the clients, the journal and the
 -- keeper.
-use Rattle.std.specs.Prelude.{◌≡◌, ◌⊎◌, ℕ, Bool, List, [], Option}
+use Rattle.std.specs.Prelude.{◌≡◌, ◌⊎◌, ℕ, Bool, true, false, List, [], Option, IfSome}
 use Rattle.cd_base.specs.declared.hash.Hash256.{Hash256}
 use Rattle.cd_base.specs.declared.source.Source.{Ghosts as SourceGhosts}
 use Rattle.cd_base.specs.declared.sink.Sink.{Ghosts as SinkGhosts}
 use Rattle.cd_keeper.specs.declared.keeper.Keeper.{Ghosts as KeeperGhosts}
 use Rattle.cd_event.specs.declared.entry.Entry.{Entry}
+use Rattle.cd_world.specs.Machine.{replay}
 use Rattle.cd_core.specs.declared.start.CoreStart.{CoreStart}
 use Rattle.cd_feed.specs.declared.feed.Feed.{Feed}
+use Rattle.cd_lanes.specs.NoPins.{IsFree}
 use Rattle.cd_command.specs.declared.status.Status.{Status}
+use Rattle.cd_command.specs.declared.status.Status.TheVariants as status
 use Rattle.cd_command.specs.Untouched.{AreSame}
 use Rattle.cd_command.specs.Opening.{IsOpening, IsUnopenedBy, LeadOn}
 use Rattle.cd_feed_call.specs.Feeding.{IsNoFeed, IsOfFeed}
 use Rattle.cd_feed_call.specs.Told.{FeedEnds}
+
+-- all was done, and the keeper failed no entry
+abbrev pub is_clean : Status → Bool
+is_clean status.Ok = true
+is_clean status.WriteFault = true
+is_clean status.ClientFault = true
+is_clean _ = false
 
 module _ (H : List ℕ → Hash256) {S O K X C : Type 0} (s : SourceGhosts S) (o : SinkGhosts O) (k : KeeperGhosts K)
     (got : C → Option (List ℕ)) (steady : C → Bool) where
@@ -25,6 +35,8 @@ module _ (H : List ℕ → Hash256) {S O K X C : Type 0} (s : SourceGhosts S) (o
       pub opened : IsOpening H k start.world.value keeper start.keeper.value
       pub on : LeadOn H k start.world.value journal start.keeper.value keeper_after
       pub ends : FeedEnds H k.held got steady start journal feed clients left o out out_after (k.faults keeper) (k.faults keeper_after) end
+      -- then no pin is left at the end, and no block that waits for the end of one
+      pub free : IfSome (k.held keeper) (λ contents. is_clean end ≡ true → IsFree (replay start.world.value journal))
 
     -- no store was opened, as the status says, and nothing else was asked
     pub record IsUnopenedFor : Type 0 where
