@@ -10,12 +10,14 @@ use Rattle.cd_block.specs.declared.block.BlockId.{BlockId}
 use Rattle.cd_event.specs.declared.entry.Entry.{Entry}
 use Rattle.cd_event.specs.Pins.{Named, find_pin}
 use Rattle.cd_fan.specs.Fans.{HaveGotBytes}
+use Rattle.cd_feed.specs.declared.feed.Phase.{Phase}
 use Rattle.cd_feed.specs.declared.feed.Task.{Task}
 use Rattle.cd_feed.specs.declared.feed.Task.TheVariants as task
 use Rattle.cd_feed.specs.Feeds.{is_serve}
 use Rattle.cd_run.specs.declared.outcome.Outcome.{Outcome}
 use Rattle.cd_run.specs.Clients.{Sent, MayServe, IsUnserved}
 use Rattle.cd_lanes.specs.Lanes.{serves, TasksRun, AreUnserved, IsServed, LeavesAll}
+use Rattle.cd_lanes.specs.Left.{WorkerServed, PhaseServed, serves_of}
 use Rattle.cd_lanes.proofs.LeftLaws.{get_before, get_last, sum_above}
 use Rattle.cd_lanes.proofs.PinLaws.{found}
 use Rattle.cd_lanes.proofs.UnservedLaws.{LeavesSo}
@@ -100,10 +102,16 @@ module _ {C : Type 0} (got : C → Option (List ℕ)) (steady : C → Bool) (dig
       (λ (s : (id : BlockId) × (max : ℕ) × (job ≡ task.Serve id max) × (m : Named) × (find_pin (pins ++ more) m.number ≡ Some m) × Sent got steady digest m.tree mid new result).
       absurd (let count = serves_with jobs job later ∙ ap (λ b. serves jobs + (cond b 1 0 + serves later)) (ap is_serve s.2 ∙ is_one s.0 s.1) in omega (arith, count, none))) leaves
 
--- where a serve left the clients, there is one
-pub served_some : {C : Type 0} (got : C → Option (List ℕ)) (steady : C → Bool) (digest : List ℕ → Hash256) (pins : List Named) (jobs : List Task) (ends : List Outcome) (old new : List C)
-    → IsServed got steady digest pins jobs ends old new → 1 ≤ serves jobs
-served_some got steady digest pins jobs ends old new s = subst (λ b. cond b 1 0 ≤ serves jobs) (is_one s.id s.max) (sum_above (λ t. cond (is_serve t) 1 0) jobs s.place (task.Serve s.id s.max) s.job)
+-- without a serve none left the clients so
+module _ {C : Type 0} (got : C → Option (List ℕ)) (steady : C → Bool) (digest : List ℕ → Hash256) (pins : ℕ → List Named) where
+  some_served : (worker : ℕ) (jobs : List Task) (ends : List Outcome) (old new : List C) → WorkerServed got steady digest pins worker jobs ends old new → 1 ≤ serves jobs
+  some_served worker jobs ends old new s = subst (λ b. cond b 1 0 ≤ serves jobs) (is_one s.id s.max) (sum_above (λ t. cond (is_serve t) 1 0) jobs s.place (task.Serve s.id s.max) s.job)
+
+  pub unserved_worker : (worker : ℕ) (jobs : List Task) (ends : List Outcome) (old new : List C) → serves jobs ≡ 0 → WorkerServed got steady digest pins worker jobs ends old new → ⊥
+  unserved_worker worker jobs ends old new none s = omega (arith, none, some_served worker jobs ends old new s)
+
+  pub unserved_phase : (phase : ℕ) (p : Phase) (ends : List (List Outcome)) (old new : List C) → serves_of p.workers ≡ 0 → PhaseServed got steady digest pins phase p ends old new → ⊥
+  unserved_phase phase p ends old new none s = omega (arith, none, some_served s.place s.part s.end old new s.is, sum_above serves p.workers s.place s.part s.at)
 
 -- ---- by the number of the task
 
