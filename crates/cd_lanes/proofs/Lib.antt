@@ -5,3 +5,5 @@ pub mod UnservedLaws
 pub mod ClientLaws
 pub mod LeftLaws
 pub mod PhaseRuns
+mod LeavingLaws
+pub mod FreeLaws

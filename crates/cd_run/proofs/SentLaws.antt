@@ -1,5 +1,5 @@
 -- What a serve leaves of its clients.
-use Rattle.std.proofs.Common.{◌≡◌, ◌≢◌, ℕ, Bool, List, [], ◌∷◌, ◌++◌, length, drop, get_or, Option, Some, None, IfSome, Result, Ok, Err, refl, sym, ap, subst, ◌∙◌, arith, length-append}
+use Rattle.std.proofs.Common.{◌≡◌, ◌≢◌, ℕ, Bool, List, [], ◌∷◌, length, get_or, Option, Some, None, IfSome, Result, Ok, Err, refl, sym, ap, ◌∙◌, arith}
 use Rattle.std.proofs.lemmas.Option.{IfSome_then}
 use Rattle.cd_base.specs.declared.answers.Memory.{Memory}
 use Rattle.cd_base.specs.declared.hash.Hash256.{Hash256}
@@ -7,7 +7,6 @@ use Rattle.cd_boc_write.specs.Exports.{bag_of}
 use Rattle.cd_cell.specs.Tree.{Tree}
 use Rattle.cd_event.specs.declared.names.Who.{Who}
 use Rattle.cd_event.specs.declared.entry.Entry.{Entry}
-use Rattle.cd_event.specs.Pins.{Named}
 use Rattle.cd_fan.specs.Fans.{HaveGotPart, HaveGotBytes}
 use Rattle.cd_run.specs.declared.outcome.Outcome.{Outcome}
 use Rattle.cd_run.specs.declared.outcome.Outcome.TheVariants as outcome

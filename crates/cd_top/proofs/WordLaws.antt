@@ -41,7 +41,7 @@ work-within line (command.Zero workchain file db) w spelt is = subst IsWithin (s
 work-within line (command.Check db) w spelt is = subst IsWithin (same_Some _ w is) tt
 work-within line (command.Migrate db) w spelt is = subst IsWithin (same_Some _ w is) tt
 work-within line (command.Gen number) w spelt is = subst IsWithin (same_Some _ w is) tt
-work-within line (command.Replay db to) w spelt is = absurd (none-some w is)
+work-within line (command.Replay db to) w spelt is = subst IsWithin (same_Some _ w is) tt
 work-within line (command.Run db to) w spelt is = absurd (none-some w is)
 
 pub line-within : (words : List (List ℕ)) (c : Command) → HasCommand words c
