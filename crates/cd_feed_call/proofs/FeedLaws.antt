@@ -1,5 +1,5 @@
 -- A feed that was done over a core, and what was told of it, row by row of the table.
-use Rattle.std.proofs.Common.{◌≡◌, inl, inr, ℕ, Bool, true, false, ◌||◌, List, [], ◌∷◌, ◌++◌, length, Option, Some, refl, sym, ap, subst, ◌∙◌, arith}
+use Rattle.std.proofs.Common.{◌≡◌, inl, inr, ℕ, Bool, true, false, ◌||◌, List, [], ◌∷◌, ◌++◌, length, All, Option, Some, refl, sym, ap, subst, ◌∙◌, arith}
 use Rattle.std.specs.List.{list_any}
 use Rattle.std.proofs.Math.Dec.{eqb}
 use Rattle.std.proofs.lemmas.Bool.{eqb-true, eqb-false}
@@ -20,6 +20,7 @@ use Rattle.cd_run.specs.Covers.{CutEarly}
 use Rattle.cd_run.specs.Runs.{has_failed}
 use Rattle.cd_run.proofs.CoverLaws.{covers-cut}
 use Rattle.cd_run.proofs.EarlyLaws.{covers_prefix-cut}
+use Rattle.cd_lanes.specs.Lanes.{AreUnserved}
 use Rattle.cd_lanes.specs.Left.{LeftByOne, PhaseServed}
 use Rattle.cd_lanes.specs.Phases.{PhasesRun}
 use Rattle.cd_replay.specs.Ran.{FeedDone, FeedStopped, pins_in}
@@ -41,7 +42,7 @@ module _ (H : List ℕ → Hash256) {K X C : Type 0} (held : K → Option Conten
     all-new : mid.journal ≡ entries
     all-new = journal ∙ ap (λ l. l ++ entries) none
 
-  pub done-of : (ends : List (List (List Outcome))) → FeedDone H held faults feed.phases ends old mid → LeftByOne (PhaseServed got steady H (pins_in H held mid)) feed.phases ends clients left
+  pub done-of : (ends : List (List (List Outcome))) → FeedDone H held faults feed.phases ends old mid → LeftByOne (All AreUnserved) (PhaseServed got steady H (pins_in H held mid)) feed.phases ends clients left
       → AreDone H held got steady mid.start mid.journal feed clients left ends
   done-of ends did served =
       let runs = subst (λ es. PhasesRun H (pins_in H held mid) 0 feed.phases es ends) (sym (all-new did.entries did.journal)) did.are in
@@ -50,7 +51,7 @@ module _ (H : List ℕ → Hash256) {K X C : Type 0} (held : K → Option Conten
   pub done-caused : (ends : List (List (List Outcome))) → FeedDone H held faults feed.phases ends old mid → RisesOnly (has_failed mid.journal) (faults old.keeper) (faults mid.keeper)
   done-caused ends did = subst (λ es. RisesOnly (has_failed es) (faults old.keeper) (faults mid.keeper)) (sym (all-new did.entries did.journal)) did.caused
 
-  pub begun-of : FeedStopped H held faults feed.phases old mid → LeftByOne (PhaseServed got steady H (pins_in H held mid)) feed.phases [] clients left
+  pub begun-of : FeedStopped H held faults feed.phases old mid → LeftByOne (All AreUnserved) (PhaseServed got steady H (pins_in H held mid)) feed.phases [] clients left
       → AreBegun H held got steady mid.start mid.journal feed clients left
   begun-of did served = record {
     covers = covers_prefix-cut H (pins_in H held mid) feed mid.journal (subst (λ es. CutEarly H (pins_in H held mid) 0 feed.phases es) (sym (all-new did.entries did.journal)) did.are);

@@ -1,5 +1,5 @@
 -- Trusted: a feed whose tasks were done over a store, and what was told of them.
-use Rattle.std.specs.Prelude.{◌≡◌, ◌≢◌, ◌⊎◌, ℕ, Bool, true, false, List, [], length, Option}
+use Rattle.std.specs.Prelude.{◌≡◌, ◌≢◌, ◌⊎◌, ℕ, Bool, true, false, List, [], length, All, Option}
 use Rattle.cd_base.specs.declared.hash.Hash256.{Hash256}
 use Rattle.cd_base.specs.declared.sink.Sink.{Ghosts as SinkGhosts}
 use Rattle.cd_base.specs.Counts.{Rose}
@@ -16,6 +16,7 @@ use Rattle.cd_run.specs.declared.outcome.Outcome.{Outcome}
 use Rattle.cd_run.specs.Covers.{CoversBy, CoversPrefixBy}
 use Rattle.cd_run.specs.ReportText.{report_text}
 use Rattle.cd_run.specs.Runs.{has_failed}
+use Rattle.cd_lanes.specs.Lanes.{AreUnserved}
 use Rattle.cd_lanes.specs.Left.{LeftByOne, PhaseServed}
 use Rattle.cd_lanes.specs.Phases.{PhasesRun}
 use Rattle.cd_command.specs.declared.status.Status.{Status}
@@ -35,16 +36,17 @@ module _ (H : List ℕ → Hash256) {K X C : Type 0} (held : K → Option Conten
   pins worker = named_by H held worker start journal
 
   -- All tasks of the feed were done, and ended so: the entries of each are its events and no others, and its end is the one
-  -- that its bag, its entries and the state of its pin decide. The clients are as they were, or as the one serve left them.
+  -- that its bag, its entries and the state of its pin decide. The clients are as they were, where no serve ended well, or
+  -- else as the one serve left them.
   pub record AreDone (ends : List (List (List Outcome))) : Type 0 where
     pub runs : PhasesRun H pins 0 feed.phases journal ends
     pub covers : CoversBy H pins feed journal
-    pub served : LeftByOne (PhaseServed got steady H pins) feed.phases ends clients left
+    pub served : LeftByOne (All AreUnserved) (PhaseServed got steady H pins) feed.phases ends clients left
 
   -- memory ran out in a task: the entries are those of the feed so far
   pub record AreBegun : Type 0 where
     pub covers : CoversPrefixBy H pins feed journal
-    pub served : LeftByOne (PhaseServed got steady H pins) feed.phases [] clients left
+    pub served : LeftByOne (All AreUnserved) (PhaseServed got steady H pins) feed.phases [] clients left
 
   module _ {O : Type 0} (o : SinkGhosts O) (out out_after : O) where
     -- all were done, and the report of their ends and of the totals of the world at the end was written so

@@ -1,6 +1,7 @@
 -- What tasks leave of the clients, one task more.
 use Rattle.std.proofs.Common.{◌≡◌, inl, inr, ⊎_elim, ℕ, suc, ◌+◌, ◌<◌, ◌≤◌, Bool, true, cond, List, [], ◌∷◌, ◌++◌, length, take, drop, get_or, slice_get, Option, Some, Result, Ok, refl, sym, ap, subst, ◌∙◌, arith}
 use Rattle.std.proofs.lemmas.List.{take_more, drop_more, take-append-drop}
+use Rattle.std.proofs.lemmas.List.Elements.{All-nil, All-push}
 use Rattle.std.proofs.lemmas.List.Sums.{sum_by-append}
 use Rattle.std.proofs.lemmas.Option.{none-some, same_Some, slice_get_within}
 use Rattle.cd_base.specs.declared.answers.Memory.{Memory}
@@ -9,14 +10,17 @@ use Rattle.cd_block.specs.declared.block.BlockId.{BlockId}
 use Rattle.cd_event.specs.declared.entry.Entry.{Entry}
 use Rattle.cd_event.specs.Pins.{Named, find_pin}
 use Rattle.cd_fan.specs.Fans.{HaveGotBytes}
+use Rattle.cd_feed.specs.declared.feed.Phase.{Phase}
 use Rattle.cd_feed.specs.declared.feed.Task.{Task}
 use Rattle.cd_feed.specs.declared.feed.Task.TheVariants as task
 use Rattle.cd_feed.specs.Feeds.{is_serve}
 use Rattle.cd_run.specs.declared.outcome.Outcome.{Outcome}
-use Rattle.cd_run.specs.Clients.{Sent, MayServe, LeavesClients, Serves, IsUnserved}
-use Rattle.cd_lanes.specs.Lanes.{serves, TasksRun, IsServed, LeavesAll}
-use Rattle.cd_lanes.proofs.LeftLaws.{get_before, get_last}
+use Rattle.cd_run.specs.Clients.{Sent, MayServe, IsUnserved}
+use Rattle.cd_lanes.specs.Lanes.{serves, TasksRun, AreUnserved, IsServed, LeavesAll}
+use Rattle.cd_lanes.specs.Left.{WorkerServed, PhaseServed, serves_of}
+use Rattle.cd_lanes.proofs.LeftLaws.{get_before, get_last, sum_above}
 use Rattle.cd_lanes.proofs.PinLaws.{found}
+use Rattle.cd_lanes.proofs.UnservedLaws.{LeavesSo}
 
 -- ---- serves
 
@@ -45,10 +49,11 @@ module _ {C : Type 0} (got : C → Option (List ℕ)) where
 pub record Further (jobs : List Task) (ends all : List Outcome) (result : Result Outcome Memory) : Type 0 where
   pub before : (place : ℕ) (end : Outcome) → place < length jobs → slice_get all place ≡ Some end → slice_get ends place ≡ Some end
   pub here : (end : Outcome) → slice_get all (length jobs) ≡ Some end → result ≡ Ok end
+  pub unserved : AreUnserved ends → IsUnserved result → AreUnserved all
 
 module _ {C : Type 0} (got : C → Option (List ℕ)) (steady : C → Bool) (digest : List ℕ → Hash256) (pins more : List Named) (jobs : List Task) (job : Task) (later : List Task) (ends all : List Outcome) (old mid new : List C) (result : Result Outcome Memory)
     (one : serves (jobs ++ job ∷ later) ≤ 1) (left : LeavesAll got steady digest pins jobs ends old mid) (untouched : serves jobs ≡ 0 → mid ≡ old) (further : Further jobs ends all result)
-    (leaves : LeavesClients got steady digest (pins ++ more) job mid new result) where
+    (leaves : LeavesSo got steady digest (pins ++ more) job mid new result) where
   -- a serve that came before still stands
   kept_served : new ≡ mid → IsServed got steady digest pins jobs ends old mid → LeavesAll got steady digest (pins ++ more) (jobs ++ job ∷ later) all old new
   kept_served same s =
@@ -65,50 +70,48 @@ module _ {C : Type 0} (got : C → Option (List ℕ)) (steady : C → Bool) (dig
         sent = subst (λ (cs : List C). Sent got steady digest s.pin.tree old cs s.result) (sym same) s.sent;
       })
 
-  kept_left : new ≡ mid → LeavesAll got steady digest (pins ++ more) (jobs ++ job ∷ later) all old new
-  kept_left same = ⊎_elim (λ (is : mid ≡ old). inl (same ∙ is)) (λ (s : IsServed got steady digest pins jobs ends old mid). kept_served same s) left
+  kept_left : new ≡ mid → IsUnserved result → LeavesAll got steady digest (pins ++ more) (jobs ++ job ∷ later) all old new
+  kept_left same its = ⊎_elim (λ (is : (mid ≡ old) × AreUnserved ends). inl (same ∙ is.0, further.unserved is.1 its))
+      (λ (s : IsServed got steady digest pins jobs ends old mid). kept_served same s) left
 
-  serve_left : (id : BlockId) (max : ℕ) → job ≡ task.Serve id max → Serves got steady digest (pins ++ more) mid new result → LeavesAll got steady digest (pins ++ more) (jobs ++ job ∷ later) all old new
-  serve_left id max is serve =
+  serve_left : (id : BlockId) (max : ℕ) → job ≡ task.Serve id max → (m : Named) → find_pin (pins ++ more) m.number ≡ Some m → Sent got steady digest m.tree mid new result
+      → LeavesAll got steady digest (pins ++ more) (jobs ++ job ∷ later) all old new
+  serve_left id max is m at sent =
       let count = serves_with jobs job later ∙ ap (λ b. serves jobs + (cond b 1 0 + serves later)) (ap is_serve is ∙ is_one id max) in
       let same = untouched (omega (arith, count, one)) in
-      ⊎_elim (λ (none : (new ≡ mid) × IsUnserved result). inl (none.0 ∙ same))
-      (λ (s : (m : Named) × (find_pin (pins ++ more) m.number ≡ Some m) × Sent got steady digest m.tree mid new result). inr (record {
+      inr (record {
         place = length jobs;
         id = id;
         max = max;
         job = get_last jobs job later ∙ ap (λ (j : Task). Some j) is;
-        pin = s.0;
-        found = s.1;
+        pin = m;
+        found = at;
         result = result;
         ended = λ end at. further.here end at;
-        sent = subst (λ (cs : List C). Sent got steady digest (let m = s.0 in m.tree) cs new result) same s.2;
-      })) serve
+        sent = subst (λ (cs : List C). Sent got steady digest m.tree cs new result) same sent;
+      })
 
   pub left_further : LeavesAll got steady digest (pins ++ more) (jobs ++ job ∷ later) all old new
-  left_further = by job refl leaves
-    where
-      by : (j : Task) → job ≡ j → LeavesClients got steady digest (pins ++ more) j mid new result → LeavesAll got steady digest (pins ++ more) (jobs ++ job ∷ later) all old new
-      by (task.Zero id tops bag) is same = kept_left same
-      by (task.Block id parent tops bag) is same = kept_left same
-      by (task.Expire id) is same = kept_left same
-      by (task.Read id path) is same = kept_left same
-      by (task.Slice id max) is same = kept_left same
-      by (task.Serve id max) is serve = serve_left id max is serve
-      by (task.Merged id left right tops bag) is same = kept_left same
+  left_further = ⊎_elim (λ (still : (new ≡ mid) × IsUnserved result). kept_left still.0 still.1)
+      (λ (s : (id : BlockId) × (max : ℕ) × (job ≡ task.Serve id max) × (m : Named) × (find_pin (pins ++ more) m.number ≡ Some m) × Sent got steady digest m.tree mid new result).
+      serve_left s.0 s.1 s.2 s.3 s.4 s.5) leaves
 
   -- without a serve nothing is touched
   pub untouched_further : serves (jobs ++ job ∷ later) ≡ 0 → new ≡ old
-  untouched_further none = by job refl leaves
-    where
-      by : (j : Task) → job ≡ j → LeavesClients got steady digest (pins ++ more) j mid new result → new ≡ old
-      by (task.Zero id tops bag) is same = same ∙ untouched (omega (arith, serves_with jobs job later, none))
-      by (task.Block id parent tops bag) is same = same ∙ untouched (omega (arith, serves_with jobs job later, none))
-      by (task.Expire id) is same = same ∙ untouched (omega (arith, serves_with jobs job later, none))
-      by (task.Read id path) is same = same ∙ untouched (omega (arith, serves_with jobs job later, none))
-      by (task.Slice id max) is same = same ∙ untouched (omega (arith, serves_with jobs job later, none))
-      by (task.Serve id max) is serve = absurd (let count = serves_with jobs job later ∙ ap (λ b. serves jobs + (cond b 1 0 + serves later)) (ap is_serve is ∙ is_one id max) in omega (arith, count, none))
-      by (task.Merged id left right tops bag) is same = same ∙ untouched (omega (arith, serves_with jobs job later, none))
+  untouched_further none = ⊎_elim (λ (still : (new ≡ mid) × IsUnserved result). still.0 ∙ untouched (omega (arith, serves_with jobs job later, none)))
+      (λ (s : (id : BlockId) × (max : ℕ) × (job ≡ task.Serve id max) × (m : Named) × (find_pin (pins ++ more) m.number ≡ Some m) × Sent got steady digest m.tree mid new result).
+      absurd (let count = serves_with jobs job later ∙ ap (λ b. serves jobs + (cond b 1 0 + serves later)) (ap is_serve s.2 ∙ is_one s.0 s.1) in omega (arith, count, none))) leaves
+
+-- without a serve none left the clients so
+module _ {C : Type 0} (got : C → Option (List ℕ)) (steady : C → Bool) (digest : List ℕ → Hash256) (pins : ℕ → List Named) where
+  some_served : (worker : ℕ) (jobs : List Task) (ends : List Outcome) (old new : List C) → WorkerServed got steady digest pins worker jobs ends old new → 1 ≤ serves jobs
+  some_served worker jobs ends old new s = subst (λ b. cond b 1 0 ≤ serves jobs) (is_one s.id s.max) (sum_above (λ t. cond (is_serve t) 1 0) jobs s.place (task.Serve s.id s.max) s.job)
+
+  pub unserved_worker : (worker : ℕ) (jobs : List Task) (ends : List Outcome) (old new : List C) → serves jobs ≡ 0 → WorkerServed got steady digest pins worker jobs ends old new → ⊥
+  unserved_worker worker jobs ends old new none s = omega (arith, none, some_served worker jobs ends old new s)
+
+  pub unserved_phase : (phase : ℕ) (p : Phase) (ends : List (List Outcome)) (old new : List C) → serves_of p.workers ≡ 0 → PhaseServed got steady digest pins phase p ends old new → ⊥
+  unserved_phase phase p ends old new none s = omega (arith, none, some_served s.place s.part s.end old new s.is, sum_above serves p.workers s.place s.part s.at)
 
 -- ---- by the number of the task
 
@@ -117,11 +120,16 @@ pub one_end_more : (jobs : List Task) (ends all : List Outcome) (end : Outcome) 
 one_end_more jobs ends all end beside is = record {
   before = λ place e lt at. sym (get_before ends (end ∷ []) place (omega arith)) ∙ ap (λ l. slice_get l place) (sym is) ∙ at;
   here = λ e at. ap (λ (x : Outcome). Ok x) (same_Some end e (sym (get_last ends end []) ∙ (ap (slice_get (ends ++ end ∷ [])) beside ∙ ap (λ l. slice_get l (length jobs)) (sym is) ∙ at)));
+  unserved = λ each its. subst AreUnserved (sym is) (All-push (λ e. IsUnserved (Ok e)) ends end each its);
 }
 
 -- memory ran out
 pub no_ends : (jobs : List Task) (ends : List Outcome) (result : Result Outcome Memory) → Further jobs ends [] result
-no_ends jobs ends result = record { before = λ place e lt at. absurd (none-some e at); here = λ e at. absurd (none-some e at) }
+no_ends jobs ends result = record {
+  before = λ place e lt at. absurd (none-some e at);
+  here = λ e at. absurd (none-some e at);
+  unserved = λ each its. All-nil (λ e. IsUnserved (Ok e));
+}
 
 pub ends_beside : {H : Type 0} (digest : List ℕ → Hash256) (pins : List Named) (p w n : ℕ) (jobs : List Task) (es : List (Entry H)) (ends : List Outcome) → TasksRun digest pins p w n jobs es ends → length ends ≡ length jobs
 ends_beside digest pins p w n [] es ends (is, are) = ap length are
@@ -143,9 +151,9 @@ module _ {C : Type 0} (got : C → Option (List ℕ)) (steady : C → Bool) (dig
     one_so_far = omega (arith, serves_with (take n tasks) job [], serves_with (take n tasks) job (drop (n + 1) tasks), ap serves all_are, one)
 
     module _ (pins more all_pins : List Named) (pinned : all_pins ≡ pins ++ more) (ends all : List Outcome) (new : List C) (result : Result Outcome Memory) (left : LeavesAll got steady digest pins (take n tasks) ends old mid)
-        (further : Further (take n tasks) ends all result) (leaves : LeavesClients got steady digest all_pins job mid new result) where
-      leaves_so : LeavesClients got steady digest (pins ++ more) job mid new result
-      leaves_so = subst (λ l. LeavesClients got steady digest l job mid new result) pinned leaves
+        (further : Further (take n tasks) ends all result) (leaves : LeavesSo got steady digest all_pins job mid new result) where
+      leaves_so : LeavesSo got steady digest (pins ++ more) job mid new result
+      leaves_so = subst (λ l. LeavesSo got steady digest l job mid new result) pinned leaves
 
       pub left_next : LeavesAll got steady digest all_pins (take (n + 1) tasks) all old new
       left_next = subst (λ l. LeavesAll got steady digest l (take (n + 1) tasks) all old new) (sym pinned) (subst (λ l. LeavesAll got steady digest (pins ++ more) l all old new) jobs_are

@@ -1,6 +1,7 @@
 pub mod PinLaws
 pub mod TaskLaws
 pub mod WorkerLaws
+pub mod UnservedLaws
 pub mod ClientLaws
 pub mod LeftLaws
 pub mod PhaseRuns

@@ -1,5 +1,5 @@
 -- Trusted: what a worker does in a phase of a feed: its tasks, each with its entries and its end.
-use Rattle.std.specs.Prelude.{◌≡◌, ◌⊎◌, ℕ, ◌+◌, Bool, List, [], ◌∷◌, ◌++◌, count_by, slice_get, Option, Some, Result, Ok}
+use Rattle.std.specs.Prelude.{◌≡◌, ◌⊎◌, ℕ, ◌+◌, Bool, List, [], ◌∷◌, ◌++◌, All, count_by, slice_get, Option, Some, Result, Ok}
 use Rattle.cd_base.specs.declared.answers.Memory.{Memory}
 use Rattle.cd_base.specs.declared.hash.Hash256.{Hash256}
 use Rattle.cd_block.specs.declared.block.BlockId.{BlockId}
@@ -10,7 +10,7 @@ use Rattle.cd_feed.specs.declared.feed.Task.{Task}
 use Rattle.cd_feed.specs.declared.feed.Task.TheVariants.{Serve}
 use Rattle.cd_feed.specs.Feeds.{is_serve}
 use Rattle.cd_run.specs.declared.outcome.Outcome.{Outcome}
-use Rattle.cd_run.specs.Clients.{Sent}
+use Rattle.cd_run.specs.Clients.{Sent, IsUnserved}
 use Rattle.cd_run.specs.Covers.{name, WorkerBegun}
 use Rattle.cd_run.specs.Runs.{TaskRun, has_failed}
 
@@ -50,6 +50,10 @@ module _ {S H : Type 0} (digest : List ℕ → Hash256) (worker faults : S → �
 abbrev pub serves : List Task → ℕ
 serves jobs = count_by is_serve jobs
 
+-- of some tasks that ended so no serve ended well
+abbrev pub AreUnserved : List Outcome → Type 0
+AreUnserved ends = All (λ end. IsUnserved (Ok end)) ends
+
 module _ {C : Type 0} (got : C → Option (List ℕ)) (steady : C → Bool) (digest : List ℕ → Hash256) (pins : List Named) where
   -- the serve of some tasks got a pin, and sent what is under it; its outcome, where there is one, is what it ended with
   pub record IsServed (jobs : List Task) (ends : List Outcome) (old new : List C) : Type 0 where
@@ -63,6 +67,6 @@ module _ {C : Type 0} (got : C → Option (List ℕ)) (steady : C → Bool) (dig
     pub ended : (end : Outcome) → slice_get ends place ≡ Some end → result ≡ Ok end
     pub sent : Sent got steady digest pin.tree old new result
 
-  -- what some tasks leave of the clients: what they were, or what the serve left
+  -- what some tasks leave of the clients: what they were, where no serve ended well, or else what the serve left
   abbrev pub LeavesAll : List Task → List Outcome → List C → List C → Type 0
-  LeavesAll jobs ends old new = (new ≡ old) ⊎ IsServed jobs ends old new
+  LeavesAll jobs ends old new = ((new ≡ old) × AreUnserved ends) ⊎ IsServed jobs ends old new

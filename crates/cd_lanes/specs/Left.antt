@@ -1,5 +1,5 @@
 -- Trusted: what the tasks of a phase and of a feed leave of the clients; of all of them one is a serve at most.
-use Rattle.std.specs.Prelude.{◌≡◌, ◌⊎◌, ℕ, Bool, List, slice_get, sum_by, Option, Some}
+use Rattle.std.specs.Prelude.{◌≡◌, ◌⊎◌, ℕ, Bool, List, All, slice_get, sum_by, Option, Some}
 use Rattle.cd_base.specs.declared.hash.Hash256.{Hash256}
 use Rattle.cd_event.specs.Pins.{Named}
 use Rattle.cd_feed.specs.declared.feed.Phase.{Phase}
@@ -24,9 +24,10 @@ pub record IsOneOf {X E C : Type 0} (Is : ℕ → X → E → List C → List C 
   pub ended : (e : E) → slice_get ends place ≡ Some e → e ≡ end
   pub is : Is place part end old new
 
--- the clients are what they were, or one of the parts left them so
-abbrev pub LeftByOne : {X E C : Type 0} → (ℕ → X → E → List C → List C → Type 0) → List X → List E → List C → List C → Type 0
-LeftByOne Is parts ends old new = (new ≡ old) ⊎ IsOneOf Is parts ends old new
+-- the clients are what they were, and this is so of what each of the parts ended with; or one of them left them so
+abbrev pub LeftByOne : {X E C : Type 0} → (E → Type 0) → (ℕ → X → E → List C → List C → Type 0)
+    → List X → List E → List C → List C → Type 0
+LeftByOne Idle Is parts ends old new = ((new ≡ old) × All Idle ends) ⊎ IsOneOf Is parts ends old new
 
 module _ {C : Type 0} (got : C → Option (List ℕ)) (steady : C → Bool) (digest : List ℕ → Hash256) (pins : ℕ → List Named) where
   -- the serve among a worker's tasks left them so

@@ -1,7 +1,8 @@
-ghost use Rattle.std.specs.Prelude.{[], IfOk, OnErr};
+ghost use Rattle.std.specs.Prelude.{[], All, IfOk, OnErr};
 ghost use Rattle.cd_fan.specs.Fans.{HaveGotBytes};
 ghost use Rattle.cd_feed.specs.Feeds.{IsFeedFit};
 ghost use Rattle.cd_run.specs.ReportText.{ends_of};
+ghost use Rattle.cd_lanes.specs.Lanes.{AreUnserved};
 ghost use Rattle.cd_lanes.specs.Left.{LeftByOne, PhaseServed};
 ghost use Rattle.cd_replay.specs.Ran.{FeedDone, FeedStopped, pins_in};
 
@@ -29,10 +30,10 @@ pub fn do_feed<K: Keeper, H: Hash32>(
         feed.now.phases (ends_of ends.items) core.old core.new) }
     ensures stopped { OnErr result (FeedStopped H.digest_of K.held K.faults
         feed.now.phases core.old core.new) }
-    ensures clients { IfOk result (λ ends. LeftByOne
+    ensures clients { IfOk result (λ ends. LeftByOne (All AreUnserved)
         (PhaseServed (λ c. got c) (λ c. steady c) H.digest_of (pins_in H.digest_of K.held core.new))
         feed.now.phases (ends_of ends.items) clients.old.items clients.new.items) }
-    ensures clients_then { OnErr result (LeftByOne
+    ensures clients_then { OnErr result (LeftByOne (All AreUnserved)
         (PhaseServed (λ c. got c) (λ c. steady c) H.digest_of (pins_in H.digest_of K.held core.new))
         feed.now.phases [] clients.old.items clients.new.items) }
 {

@@ -2,6 +2,7 @@ ghost use Rattle.std.specs.Prelude.{◌≡◌, ◌≤◌, [], length, map, IfOk,
 ghost use Rattle.std.specs.List.{AllByRecursion};
 ghost use Rattle.cd_fan.specs.Fans.{HaveGotBytes};
 ghost use Rattle.cd_feed.specs.Feeds.{IsWorkerFit};
+ghost use Rattle.cd_lanes.specs.Lanes.{AreUnserved};
 ghost use Rattle.cd_lanes.specs.Left.{LeftByOne, WorkerServed, serves_of};
 ghost use Rattle.cd_replay.specs.Ran.{PhaseDone, PhaseStopped, pins_in};
 
@@ -31,10 +32,10 @@ pub(crate) fn do_phase<K: Keeper, H: Hash32>(
         phase workers.now (map (λ its. its.items) ends.items) core.old core.new) }
     ensures stopped { OnErr result (PhaseStopped H.digest_of K.held K.faults
         phase workers.now core.old core.new) }
-    ensures clients { IfOk result (λ ends. LeftByOne
+    ensures clients { IfOk result (λ ends. LeftByOne AreUnserved
         (WorkerServed (λ c. got c) (λ c. steady c) H.digest_of (pins_in H.digest_of K.held core.new))
         workers.now (map (λ its. its.items) ends.items) clients.old.items clients.new.items) }
-    ensures clients_then { OnErr result (LeftByOne
+    ensures clients_then { OnErr result (LeftByOne AreUnserved
         (WorkerServed (λ c. got c) (λ c. steady c) H.digest_of (pins_in H.digest_of K.held core.new))
         workers.now [] clients.old.items clients.new.items) }
     ensures untouched { serves_of workers.now ≡ 0 → clients.new.items ≡ clients.old.items }
