@@ -9,7 +9,7 @@ use std::alloc::Global;
 use std::test::Fail;
 
 /// The bag of the cell without bits and references.
-const ONE_CELL: [u8; 13] = [0xb5, 0xee, 0x9c, 0x72, 1, 1, 1, 1, 0, 2, 0, 0, 0];
+pub(crate) const ONE_CELL: [u8; 13] = [0xb5, 0xee, 0x9c, 0x72, 1, 1, 1, 1, 0, 2, 0, 0, 0];
 
 /// That cell in all four places of a root.
 const FOUR_PLACES: [u8; 19] = [
@@ -49,7 +49,7 @@ fn zero<S: Source, O: Sink, K: Keeper>(
 }
 
 /// What a call of one word over a steady keeper and this input answers: the status, the output and the keeper.
-fn told(
+pub(crate) fn told(
     alloc: Global,
     word: &str,
     input: &[u8],

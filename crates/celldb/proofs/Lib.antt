@@ -1,1 +1,1 @@
-pub mod DatabaseLaws
+pub mod PlaceLaws

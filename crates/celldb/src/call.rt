@@ -1,15 +1,15 @@
-ghost use Rattle.std.specs.Prelude.{◌≡◌, ◌≢◌, ℕ, List, None, IfOk, drop, map, option_map, string_bytes};
+ghost use Rattle.std.specs.Prelude.{◌≡◌, ◌≢◌, ℕ, List, [], None, IfOk, drop, map, option_map, string_bytes};
 ghost use Rattle.std.specs.Process.{exit_status};
 ghost use Rattle.cd_command.specs.Printing.{TextEnds};
 ghost use Rattle.cd_command.specs.StatusText.{code_of};
 ghost use Rattle.cd_fan.specs.Fans.{HaveGotBytes};
 ghost use Rattle.cd_words.specs.Pages.{page_of};
-ghost use Rattle.celldb.specs.Databases.{IsDatabase, keeper_status, path_in};
+ghost use Rattle.celldb.specs.Places.{AreFiles, IsDatabase, client_status, files_in, keeper_status, path_in};
 ghost use Rattle.celldb.specs.Runs.{HasSaid, IsRun, IsPage};
 
 use cd_base::{Memory, Sink, Source, write_all};
 use cd_cell::Hash32;
-use cd_fan::{Client, SliceClient};
+use cd_fan::{Client, FileFault, SliceClient};
 use cd_keeper::{KeepFault, Keeper};
 use cd_top::{Ended, Status, WordFault, celldb_once};
 use cd_words::{Command, Page, page_of, page_text, read_words};
@@ -45,30 +45,64 @@ pub fn status_of_keeper(fault: KeepFault) -> Status
     }
 }
 
-/// The path of the database that a command names.
-fn database_in(command: Command) -> Option<String>
-    ensures { option_map string_bytes result ≡ path_in command }
+/// The status where a client's file can't be made.
+pub fn status_of_client(fault: FileFault) -> Status
+    ensures { result ≡ client_status fault }
 {
-    match command {
-        Command::Zero { db, .. } => db,
-        Command::Replay { db, .. } => db,
-        Command::Run { db, .. } => db,
-        Command::Check { db } => db,
-        Command::Export { db, .. } => db,
-        Command::Gen { .. } => None,
-        Command::Migrate { db } => db,
+    match fault {
+        FileFault::Failed => Status::ClientFault,
+        FileFault::Memory => Status::Memory,
     }
 }
 
-/// The path of the database that words name by `--db`. Words that are no command name none.
-pub fn database_of(alloc: Global, words: &[String]) -> Result<Option<String>, Memory>
-    ensures { IfOk result (λ found. IsDatabase (map string_bytes words.now) (option_map string_bytes found)) }
+/// The files that words name.
+pub struct Places {
+    /// The path of the database.
+    pub db: Option<String>,
+    /// The paths of the clients' files.
+    pub to: Vec<String>,
+}
+
+/// The files that a command names.
+fn places_in(alloc: Global, command: Command) -> Places
+    ensures db { option_map string_bytes result.db ≡ path_in command }
+    ensures to { map string_bytes result.to.items ≡ files_in command }
+{
+    let to = Vec::new(alloc);
+    match command {
+        Command::Zero { db, .. } => Places { db, to },
+        Command::Replay { db, to } => Places { db, to },
+        Command::Run { db, .. } => Places { db, to },
+        Command::Check { db } => Places { db, to },
+        Command::Export { db, to, .. } => Places { db, to },
+        Command::Gen { .. } => Places { db: None, to },
+        Command::Migrate { db } => Places { db, to },
+    }
+}
+
+fn no_places(alloc: Global) -> Places
+    ensures db { option_map string_bytes result.db ≡ None }
+    ensures to { map string_bytes result.to.items ≡ [] }
+{
+    Places {
+        db: None,
+        to: Vec::new(alloc),
+    }
+}
+
+/// The database that words name by `--db`, and the files that a replay or an export names by `--to`. Words that are no command name
+/// none.
+pub fn places_of(alloc: Global, words: &[String]) -> Result<Places, Memory>
+    ensures db { IfOk result (λ places.
+        IsDatabase (map string_bytes words.now) (option_map string_bytes places.db)) }
+    ensures to { IfOk result (λ places.
+        AreFiles (map string_bytes words.now) (map string_bytes places.to.items)) }
 {
     match read_words(alloc, words) {
-        Ok(command) => Ok(database_in(command)),
+        Ok(command) => Ok(places_in(alloc, command)),
         Err(WordFault::Memory) => Err(Memory),
-        Err(WordFault::Usage) => Ok(None),
-        Err(WordFault::BadValue { .. }) => Ok(None),
+        Err(WordFault::Usage) => Ok(no_places(alloc)),
+        Err(WordFault::BadValue { .. }) => Ok(no_places(alloc)),
     }
 }
 

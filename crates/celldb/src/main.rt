@@ -4,11 +4,13 @@
 mod call;
 
 use crate::call::{
-    database_of, end, run, status_of_keeper, status_without_words, words_behind_name,
+    Places, end, places_of, run, status_of_client, status_of_keeper, status_without_words,
+    words_behind_name,
 };
-use cd_base::{StdSink, StdSource};
+use cd_base::{Sink, Source, StdSink, StdSource};
 use cd_cell::Sha;
-use cd_keeper::SteadyKeeper;
+use cd_fan::{Client, FileClient};
+use cd_keeper::{Keeper, SteadyKeeper};
 use cd_keeper_sql::SqlKeeper;
 use cd_top::Status;
 use std::process::ExitCode;
@@ -24,6 +26,34 @@ fn all_words<R: Env + AllocGlobal>(rt: &R) -> io::Result<Vec<String>> {
     Ok(words)
 }
 
+/// Makes a client over each of these files, and runs. A file that is there is emptied.
+fn run_to<S: Source, O: Sink, E: Sink, K: Keeper>(
+    rt: &HostRuntime,
+    words: &[String],
+    to: &[String],
+    input: &mut S,
+    out: &mut O,
+    err: &mut E,
+    keeper: K,
+) -> ExitCode {
+    let alloc = rt.alloc();
+    let mut clients: Vec<Client> = Vec::new(alloc);
+    for path in to {
+        let client = match FileClient::create(rt, path.as_str()) {
+            Ok(client) => client,
+            Err(fault) => return end(status_of_client(fault), err),
+        };
+        let client = match Box::new(alloc, client) {
+            Ok(client) => client,
+            Err(_) => return end(Status::Memory, err),
+        };
+        if clients.push(client).is_err() {
+            return end(Status::Memory, err);
+        }
+    }
+    run::<_, _, _, _, Sha>(alloc, words, input, out, err, keeper, clients)
+}
+
 fn main(rt: HostRuntime) -> ExitCode {
     let alloc = rt.alloc();
     let mut input = StdSource::new(rt.reader());
@@ -34,28 +64,23 @@ fn main(rt: HostRuntime) -> ExitCode {
         Err(error) => return end(status_without_words(error.kind()), &mut err),
     };
     let behind = words_behind_name(&words);
-    match database_of(alloc, behind) {
-        Ok(Some(path)) => match SqlKeeper::open(&rt, path.as_str()) {
-            Ok(keeper) => run::<_, _, _, _, Sha>(
-                alloc,
-                behind,
-                &mut input,
-                &mut out,
-                &mut err,
-                keeper,
-                Vec::new(alloc),
-            ),
+    let Places { db, to } = match places_of(alloc, behind) {
+        Ok(places) => places,
+        Err(_) => return end(Status::Memory, &mut err),
+    };
+    match db {
+        Some(path) => match SqlKeeper::open(&rt, path.as_str()) {
+            Ok(keeper) => run_to(&rt, behind, &to, &mut input, &mut out, &mut err, keeper),
             Err(fault) => end(status_of_keeper(fault), &mut err),
         },
-        Ok(None) => run::<_, _, _, _, Sha>(
-            alloc,
+        None => run_to(
+            &rt,
             behind,
+            &to,
             &mut input,
             &mut out,
             &mut err,
             SteadyKeeper::new(alloc),
-            Vec::new(alloc),
         ),
-        Err(_) => end(Status::Memory, &mut err),
     }
 }

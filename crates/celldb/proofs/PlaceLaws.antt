@@ -1,5 +1,5 @@
 -- Words name one database, or none.
-use Rattle.std.proofs.Common.{◌≡◌, ◌⊎◌, ⊎_elim, ℕ, List, Option, Some, None, refl, sym, ◌∙◌, subst, inl, inr}
+use Rattle.std.proofs.Common.{◌≡◌, ◌⊎◌, ⊎_elim, ℕ, List, [], Option, Some, None, refl, sym, ◌∙◌, subst, inl, inr}
 use Rattle.std.specs.Prelude.{String, string_bytes, option_map}
 use Rattle.cd_words.specs.declared.command.Command.{Command}
 use Rattle.cd_words.specs.declared.command.Command.TheVariants as is
@@ -11,7 +11,7 @@ use Rattle.cd_words.specs.Lines.{Line, value_of}
 use Rattle.cd_words.specs.Reading.{HasCommand, IsRefusal}
 use Rattle.cd_words.specs.Values.{Spells}
 use Rattle.cd_words.proofs.CommandLaws.{refused_alone}
-use Rattle.celldb.specs.Databases.{path_in, IsDatabase}
+use Rattle.celldb.specs.Places.{path_in, AreFiles, IsDatabase}
 
 -- a line names no database: it is that of `gen`, or has no such option
 abbrev NamesNone : Line → Type 0
@@ -51,3 +51,7 @@ database-of words c found has said = by-path words c (option_map string_bytes fo
 -- words that are refused name none
 pub no-database : (words : List (List ℕ)) (refusal : WordFault) → IsRefusal words refusal → (refusal ≡ fault.Memory → ⊥) → IsDatabase words None
 no-database words refusal refused other = λ c has. absurd (other (refused_alone words refusal c refused has))
+
+-- nor a file of a client
+pub no-files : (words : List (List ℕ)) (refusal : WordFault) → IsRefusal words refusal → (refusal ≡ fault.Memory → ⊥) → AreFiles words []
+no-files words refusal refused other = inr (λ c has. other (refused_alone words refusal c refused has), refl)
