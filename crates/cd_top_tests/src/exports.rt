@@ -71,7 +71,10 @@ fn a_block_that_is_not_there_is_not_exported(rt: HostRuntime) -> Result<(), Fail
         SteadyKeeper::new(alloc),
         clients,
     );
-    let unknown = matches!(status, Status::Refused(TopRefusal::Core(Refusal::UnknownBlock)));
+    let unknown = matches!(
+        status,
+        Status::Refused(TopRefusal::Core(Refusal::UnknownBlock))
+    );
     assert!(rt; unknown && clients.len() == 1);
     assert!(rt; journal.len() == 1 && out.taken().is_empty());
     Ok(())
