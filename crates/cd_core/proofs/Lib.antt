@@ -3,6 +3,7 @@ pub mod Apart
 pub mod Asked
 pub mod Begun
 pub mod Brought
+pub mod Crosses
 pub mod DescrTables
 pub mod Doings
 pub mod Dropped

@@ -1,5 +1,6 @@
 pub mod ListingLaws
 pub mod WriterLaws
+pub mod HalfLaws
 pub mod PrunedLaws
 pub mod OrderLaws
 pub mod PhaseLaws

@@ -1,7 +1,6 @@
 -- A transaction that is rolled back, committed or refused makes one step of the database or none.
-use Rattle.std.proofs.Common.{◌≡◌, Result, Ok, Err, inl, inr, true, refl, ap, subst, arith, OnOk, OnErr}
+use Rattle.std.proofs.Common.{◌≡◌, Result, Ok, Err, inl, inr, true, ap, subst, arith, OnOk, OnErr}
 use Rattle.sqlite_trees.specs.declared.store.Store as store
-use Rattle.sqlite_trees.specs.Tree.{Trees}
 use Rattle.sqlite.specs.Held.{Held, state}
 use Rattle.sqlite.specs.State.{State, HasCleanDisk, KeepsCommit, Survives, IsRolledBack}
 use Rattle.sqlite.specs.Steps.{FailsToCommit}

@@ -13,7 +13,7 @@ use Rattle.cd_feed.specs.declared.feed.Task.{Task}
 use Rattle.cd_feed.specs.declared.feed.Task.TheVariants as task
 use Rattle.cd_feed.specs.Feeds.{is_serve}
 use Rattle.cd_run.specs.declared.outcome.Outcome.{Outcome}
-use Rattle.cd_run.specs.Clients.{Sent, MayServe, LeavesClients, Serves}
+use Rattle.cd_run.specs.Clients.{Sent, MayServe, LeavesClients, Serves, IsUnserved}
 use Rattle.cd_lanes.specs.Lanes.{serves, TasksRun, IsServed, LeavesAll}
 use Rattle.cd_lanes.proofs.LeftLaws.{get_before, get_last}
 use Rattle.cd_lanes.proofs.PinLaws.{found}
@@ -72,7 +72,7 @@ module _ {C : Type 0} (got : C → Option (List ℕ)) (steady : C → Bool) (dig
   serve_left id max is serve =
       let count = serves_with jobs job later ∙ ap (λ b. serves jobs + (cond b 1 0 + serves later)) (ap is_serve is ∙ is_one id max) in
       let same = untouched (omega (arith, count, one)) in
-      ⊎_elim (λ (none : new ≡ mid). inl (none ∙ same))
+      ⊎_elim (λ (none : (new ≡ mid) × IsUnserved result). inl (none.0 ∙ same))
       (λ (s : (m : Named) × (find_pin (pins ++ more) m.number ≡ Some m) × Sent got steady digest m.tree mid new result). inr (record {
         place = length jobs;
         id = id;

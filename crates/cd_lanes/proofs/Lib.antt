@@ -4,3 +4,5 @@ pub mod WorkerLaws
 pub mod ClientLaws
 pub mod LeftLaws
 pub mod PhaseRuns
+mod LeavingLaws
+pub mod FreeLaws

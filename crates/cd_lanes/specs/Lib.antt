@@ -1,3 +1,4 @@
 pub mod Lanes
 pub mod Phases
 pub mod Left
+pub mod NoPins

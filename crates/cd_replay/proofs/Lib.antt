@@ -2,3 +2,4 @@ mod OnCore
 mod PinsGrow
 mod PhaseLaws
 mod FeedLaws
+mod CoveredLaws

@@ -2,6 +2,7 @@ pub mod Lists
 pub mod Names
 pub mod CoverLaws
 pub mod EarlyLaws
+pub mod EndedPins
 pub mod StageLaws
 pub mod KeeperLaws
 pub mod CallLaws

@@ -1,5 +1,5 @@
 -- What a serve leaves of its clients.
-use Rattle.std.proofs.Common.{◌≡◌, ◌≢◌, ℕ, Bool, List, [], ◌∷◌, ◌++◌, length, drop, get_or, Option, Some, None, IfSome, Result, Ok, Err, refl, sym, ap, subst, ◌∙◌, arith, length-append}
+use Rattle.std.proofs.Common.{◌≡◌, ◌≢◌, ℕ, Bool, List, [], ◌∷◌, length, get_or, Option, Some, None, IfSome, Result, Ok, Err, refl, sym, ap, ◌∙◌, arith}
 use Rattle.std.proofs.lemmas.Option.{IfSome_then}
 use Rattle.cd_base.specs.declared.answers.Memory.{Memory}
 use Rattle.cd_base.specs.declared.hash.Hash256.{Hash256}
@@ -7,7 +7,6 @@ use Rattle.cd_boc_write.specs.Exports.{bag_of}
 use Rattle.cd_cell.specs.Tree.{Tree}
 use Rattle.cd_event.specs.declared.names.Who.{Who}
 use Rattle.cd_event.specs.declared.entry.Entry.{Entry}
-use Rattle.cd_event.specs.Pins.{Named}
 use Rattle.cd_fan.specs.Fans.{HaveGotPart, HaveGotBytes}
 use Rattle.cd_run.specs.declared.outcome.Outcome.{Outcome}
 use Rattle.cd_run.specs.declared.outcome.Outcome.TheVariants as outcome
@@ -15,7 +14,10 @@ use Rattle.cd_run.specs.declared.outcome.TaskRefusal.{TaskRefusal}
 use Rattle.cd_run.specs.declared.outcome.TaskRefusal.TheVariants as word
 use Rattle.cd_run.specs.declared.pinned.Halt.{Halt}
 use Rattle.cd_run.specs.declared.pinned.Halt.TheVariants as halt
-use Rattle.cd_run.specs.Clients.{Sent}
+use Rattle.cd_run.specs.declared.words.Stop.{Stop}
+use Rattle.cd_run.specs.declared.words.Stop.TheVariants as stop
+use Rattle.cd_run.specs.Clients.{Sent, IsUnserved}
+use Rattle.cd_run.specs.Ends.{stop_end}
 use Rattle.cd_run.specs.Runs.{let_go_end}
 use Rattle.cd_run.specs.Stages.{LetGoBy, work_end}
 use Rattle.cd_run.proofs.KeeperLaws.{word_in, ok_in}
@@ -23,6 +25,11 @@ use Rattle.cd_run.proofs.KeeperLaws.{word_in, ok_in}
 if_told : (told : Option Tree) (P : Tree → Type 0) → ((t : Tree) → told ≡ Some t → P t) → IfSome told P
 if_told None P fact = tt
 if_told (Some t) P fact = fact t refl
+
+-- a task that goes no further ends no serve well
+pub stop_unserved : (why : Stop) → IsUnserved (stop_end why)
+stop_unserved (stop.Refused why) bytes done failed is = cc
+stop_unserved stop.Memory bytes done failed is = cc
 
 -- ---- ends behind an unpin
 

@@ -19,6 +19,10 @@ module _ {C : Type 0} (got : C → Option (List ℕ)) where
   MayServe (task.Serve id max) clients = HaveGotBytes got 0 clients
   MayServe _ clients = Unit {0}
 
+-- no serve ended well
+abbrev pub IsUnserved : Result Outcome Memory → Type 0
+IsUnserved result = (bytes done failed : ℕ) → result ≢ Ok (outcome.Serve bytes done failed)
+
 module _ {C : Type 0} (got : C → Option (List ℕ)) (steady : C → Bool) (digest : List ℕ → Hash256) where
   -- what a serve that has a pin leaves, by the state of the pin, where it is told
   pub record Sent {E : Type 0} (told : Option Tree) (old new : List C) (result : Result Outcome E) : Type 0 where
@@ -34,9 +38,10 @@ module _ {C : Type 0} (got : C → Option (List ℕ)) (steady : C → Bool) (dig
     -- a steady client is never taken out
     pub steadied : count_by steady new ≡ count_by steady old
 
-  -- what a serve leaves, by its worker's pins behind it: what they were, or, under its pin, what it sent
+  -- what a serve leaves, by its worker's pins behind it: what it sent under its pin, or else what they were; so they are
+  -- where it got no pin, and never where it ended well
   abbrev pub Serves : List Named → List C → List C → Result Outcome Memory → Type 0
-  Serves pins old new result = (new ≡ old)
+  Serves pins old new result = ((new ≡ old) × IsUnserved result)
       ⊎ ((m : Named) × (find_pin pins m.number ≡ Some m) × Sent m.tree old new result)
 
   -- every other task leaves them as they were

@@ -1,5 +1,6 @@
 -- Trusted: a journal covers a feed: the entries of each name are those of its task, each once, phase after phase.
-use Rattle.std.specs.Prelude.{◌≡◌, ◌⊎◌, ℕ, ◌+◌, ◌<◌, ◌≤◌, ◌==◌, Bool, ◌&&◌, List, [], ◌∷◌, ◌++◌, length, filter, All, AllPairs, Option, Some, IsSome, slice_get, option_and_then, if◌then◌else◌}
+use Rattle.std.specs.Prelude.{◌≡◌, ◌⊎◌, ℕ, ◌+◌, ◌<◌, ◌≤◌, ◌==◌, Bool, ◌&&◌, List, [], ◌∷◌, ◌++◌, length, map, filter, All, AllPairs, Option, Some, IsSome, slice_get, option_and_then, if◌then◌else◌}
+use Rattle.std.specs.Option.{option_to_list}
 use Rattle.cd_base.specs.declared.hash.Hash256.{Hash256}
 use Rattle.cd_event.specs.declared.names.Who.{Who}
 use Rattle.cd_event.specs.declared.entry.Entry.{Entry}
@@ -8,7 +9,8 @@ use Rattle.cd_event.specs.declared.event.Event.TheVariants as event
 use Rattle.cd_event.specs.declared.entry.Reply.{Reply}
 use Rattle.cd_event.specs.declared.entry.Reply.TheVariants as reply
 use Rattle.cd_event.specs.Pins.{Named}
-use Rattle.cd_cell.specs.Tree.{info_of}
+use Rattle.cd_world.specs.Machine.{root_info}
+use Rattle.cd_world.specs.Standing.{kept_at}
 use Rattle.cd_world.specs.Told.{ToldWorld, told_after}
 use Rattle.cd_feed.specs.declared.feed.Feed.{Feed}
 use Rattle.cd_feed.specs.declared.feed.Phase.{Phase}
@@ -111,27 +113,22 @@ module _ {H : Type 0} (digest : List ℕ → Hash256) (pins : ℕ → List Named
 
 -- ---- the pins of a replay
 
-module _ (digest : List ℕ → Hash256) where
-  -- the pin that an entry gives, with the state of its block in the world so far
-  abbrev pub given_by : {H : Type 0} → ToldWorld → Event H → Reply → List Named
-  given_by t (event.Pin id) (reply.Pinned pin) = (record {
-    number = pin;
-    root = info_of digest
-        (t.state id);
-    tree = Some (t.state id);
-  }) ∷ []
-  given_by t _ _ = []
+-- the pin that an entry gives, with what the description of its block tells of the root of the state, and that state
+abbrev pub given_by : {H : Type 0} → ToldWorld → Event H → Reply → List Named
+given_by t (event.Pin id) (reply.Pinned pin) =
+    map (λ d. record { number = pin; root = root_info d; tree = Some (t.state id) }) (option_to_list (kept_at t.world id))
+given_by t _ _ = []
 
-  module _ {H : Type 0} where
-    -- all pins of a worker
-    abbrev pub given : ToldWorld → List (Entry H) → ℕ → List Named
-    given t [] worker = []
-    given t (e ∷ es) worker = (if e.who.worker == worker then given_by t e.event e.reply else [])
-        ++ given (told_after digest t e) es worker
+module _ {H : Type 0} (digest : List ℕ → Hash256) where
+  -- all pins of a worker
+  abbrev pub given : ToldWorld → List (Entry H) → ℕ → List Named
+  given t [] worker = []
+  given t (e ∷ es) worker = (if e.who.worker == worker then given_by t e.event e.reply else [])
+      ++ given (told_after digest t e) es worker
 
-    -- the journal covers the feed, replayed from a world
-    abbrev pub Covers : Feed → List (Entry H) → ToldWorld → Type 0
-    Covers feed journal t = CoversBy digest (given t journal) feed journal
+  -- the journal covers the feed, replayed from a world
+  abbrev pub Covers : Feed → List (Entry H) → ToldWorld → Type 0
+  Covers feed journal t = CoversBy digest (given t journal) feed journal
 
-    abbrev pub CoversPrefix : Feed → List (Entry H) → ToldWorld → Type 0
-    CoversPrefix feed journal t = CoversPrefixBy digest (given t journal) feed journal
+  abbrev pub CoversPrefix : Feed → List (Entry H) → ToldWorld → Type 0
+  CoversPrefix feed journal t = CoversPrefixBy digest (given t journal) feed journal

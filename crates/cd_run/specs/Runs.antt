@@ -1,6 +1,6 @@
 -- Trusted: the entries of a task and how it ends, each way by its name. `pins` are the pins that the worker was given,
 -- each with its root and, where it is told, its tree.
-use Rattle.std.specs.Prelude.{◌≡◌, ◌⊎◌, ℕ, ◌+◌, ◌≤◌, Bool, true, false, ◌||◌, List, [], ◌∷◌, ◌++◌, length, sum, Option, Some, None, Result, Ok, Err}
+use Rattle.std.specs.Prelude.{◌≡◌, ◌⊎◌, ℕ, ◌+◌, ◌≤◌, Bool, false, ◌||◌, List, [], ◌∷◌, ◌++◌, length, sum, Option, Some, None, Result, Ok, Err}
 use Rattle.cd_base.specs.Counts.{Rose}
 use Rattle.cd_base.specs.declared.hash.Hash256.{Hash256}
 use Rattle.cd_base.specs.declared.answers.Memory.{Memory}

@@ -20,7 +20,9 @@ mod words;
 mod zero_task;
 
 pub use holdup::{Holdup, NoHoldup};
-pub use laws::{a_begun_journal_covers_the_feed_so_far, a_cut_journal_covers_the_feed};
+pub use laws::{
+    a_begun_journal_covers_the_feed_so_far, a_cut_journal_covers_the_feed, a_task_leaves_no_pin,
+};
 pub use outcome::{Outcome, TaskRefusal};
 pub use reporting::report;
 pub use task::do_task;

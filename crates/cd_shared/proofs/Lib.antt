@@ -1,1 +1,2 @@
 pub mod AsSeen
+pub mod Crosses

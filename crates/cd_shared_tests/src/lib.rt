@@ -1,4 +1,4 @@
-//! Tests of the shared core.
+//! Tests of the shared core: they start threads.
 #![tactic(auto)]
 
 #[cfg(test)]

@@ -5,7 +5,7 @@ ghost use Rattle.cd_cell.specs.Listings.{Fits};
 use cd_base::Hash256;
 use cd_block::{BlockId, ShardId};
 use cd_boc_read::read_bag;
-use cd_cell::{Bag, Hash32, Prepared, WeakSum};
+use cd_cell::{Bag, Bits, Face, Hash32, Prepared, WeakSum};
 use cd_core::Core;
 use cd_keeper::SteadyKeeper;
 use cd_prepare::prepare_zero;
@@ -21,6 +21,12 @@ pub(crate) fn root_hash() -> Hash256 {
     let mut hash = Hash256([0; 32]);
     hash.0[31] = 3;
     hash
+}
+
+/// The root's face.
+pub(crate) fn root_face() -> Face {
+    let bits = Bits::from_slice(&[1], 8).unwrap();
+    Face::new(false, bits, &[])
 }
 
 /// The zero state's name.

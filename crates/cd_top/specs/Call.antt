@@ -1,5 +1,5 @@
 -- Trusted: how a call of the program ends, by its words.
-use Rattle.std.specs.Prelude.{◌≡◌, ◌⊎◌, ℕ, List, [], Option, Some, None}
+use Rattle.std.specs.Prelude.{◌≡◌, ◌⊎◌, ℕ, Bool, List, [], Option, Some, None}
 use Rattle.cd_base.specs.declared.hash.Hash256.{Hash256}
 use Rattle.cd_base.specs.declared.source.Source.{Ghosts as SourceGhosts}
 use Rattle.cd_base.specs.declared.sink.Sink.{Ghosts as SinkGhosts}
@@ -14,6 +14,8 @@ use Rattle.cd_command.specs.declared.status.Status.{Status}
 use Rattle.cd_command.specs.declared.status.Status.TheVariants as status
 use Rattle.cd_command.specs.Untouched.{AreSame}
 use Rattle.cd_zero.specs.ZeroCall.{ZeroEnds}
+use Rattle.cd_export.specs.ExportCall.{ExportEnds}
+use Rattle.cd_feed_call.specs.Replaying.{ReplayEnds}
 use Rattle.cd_upkeep.specs.CheckCall.{CheckEnds}
 use Rattle.cd_upkeep.specs.MigrateCall.{MigrateEnds}
 use Rattle.cd_top.specs.declared.work.Work.{Work}
@@ -23,12 +25,12 @@ use Rattle.cd_top.specs.FeedCall.{FeedEnds}
 -- what a command asks for, over the keeper that its words name; none where its work isn't there yet
 abbrev pub work_by : Command → Option Work
 work_by (command.Zero workchain file db) = Some (work.Zero (record { workchain = workchain; file = file }))
+work_by (command.Replay db to) = Some work.Replay
 work_by (command.Check db) = Some work.Check
 work_by (command.Migrate db) = Some work.Migrate
+work_by (command.Export id max db to) = Some (work.Export id max)
 work_by (command.Gen number) = Some (work.Gen number)
-work_by (command.Replay db to) = None
 work_by (command.Run db to) = None
-work_by (command.Export id max db to) = None
 
 -- the words are a command that asks for this
 abbrev pub IsLineOf : Work → List (List ℕ) → Type 0
@@ -52,20 +54,25 @@ EndsUntaken words (status.Usage fault) = IsNotTaken words fault
 EndsUntaken words status.Memory = Unit {0}
 EndsUntaken words _ = ⊥
 
-module _ (H : List ℕ → Hash256) {S O K X : Type 0} (s : SourceGhosts S) (o : SinkGhosts O) (k : KeeperGhosts K) where
+module _ (H : List ℕ → Hash256) {S O K X C : Type 0} (s : SourceGhosts S) (o : SinkGhosts O) (k : KeeperGhosts K)
+    (got : C → Option (List ℕ)) (steady : C → Bool) where
   -- how a call ends that was asked for some work: a row for each command
-  abbrev pub WorkEnds : Work → S → S → O → O → K → K → List (Entry X) → Status → Type 0
-  WorkEnds (work.Zero name) i j out out_after keeper keeper_after journal end =
-      ZeroEnds H s o k name i j out out_after keeper keeper_after journal end
-  WorkEnds work.Check i j out out_after keeper keeper_after journal end =
-      CheckEnds H k o out out_after keeper keeper_after end × (j ≡ i) × (journal ≡ [])
-  WorkEnds work.Migrate i j out out_after keeper keeper_after journal end =
-      MigrateEnds H k o out out_after keeper keeper_after end × (j ≡ i) × (journal ≡ [])
-  WorkEnds (work.Gen number) i j out out_after keeper keeper_after journal end =
-      FeedEnds o number out out_after end × (j ≡ i) × (keeper_after ≡ keeper) × (journal ≡ [])
+  abbrev pub WorkEnds : Work → S → S → O → O → K → K → List C → List C → List (Entry X) → Status → Type 0
+  WorkEnds (work.Zero name) i j out out_after keeper keeper_after clients left journal end =
+      ZeroEnds H s o k name i j out out_after keeper keeper_after journal end × (left ≡ clients)
+  WorkEnds work.Replay i j out out_after keeper keeper_after clients left journal end =
+      ReplayEnds H s o k got steady i j out out_after keeper keeper_after clients left journal end
+  WorkEnds work.Check i j out out_after keeper keeper_after clients left journal end =
+      CheckEnds H k o out out_after keeper keeper_after end × (j ≡ i) × (journal ≡ []) × (left ≡ clients)
+  WorkEnds work.Migrate i j out out_after keeper keeper_after clients left journal end =
+      MigrateEnds H k o out out_after keeper keeper_after end × (j ≡ i) × (journal ≡ []) × (left ≡ clients)
+  WorkEnds (work.Export id max) i j out out_after keeper keeper_after clients left journal end =
+      ExportEnds H k o got steady id out out_after keeper keeper_after clients left journal end × (j ≡ i)
+  WorkEnds (work.Gen number) i j out out_after keeper keeper_after clients left journal end =
+      FeedEnds o number out out_after end × (j ≡ i) × (keeper_after ≡ keeper) × (journal ≡ []) × (left ≡ clients)
 
   -- how a call ends: as the work that its words ask for; or, where the words are not taken, with nothing asked of the objects
-  abbrev pub Ends : List (List ℕ) → S → S → O → O → K → K → List (Entry X) → Status → Type 0
-  Ends words i j out out_after keeper keeper_after journal end =
-      ((w : Work) × IsLineOf w words × WorkEnds w i j out out_after keeper keeper_after journal end)
-      ⊎ (EndsUntaken words end × (j ≡ i) × AreSame out out_after keeper keeper_after journal)
+  abbrev pub Ends : List (List ℕ) → S → S → O → O → K → K → List C → List C → List (Entry X) → Status → Type 0
+  Ends words i j out out_after keeper keeper_after clients left journal end =
+      ((w : Work) × IsLineOf w words × WorkEnds w i j out out_after keeper keeper_after clients left journal end)
+      ⊎ (EndsUntaken words end × (j ≡ i) × AreSame out out_after keeper keeper_after journal × (left ≡ clients))

@@ -1,2 +1,3 @@
 pub mod FeedCall
 pub mod Call
+pub mod Within

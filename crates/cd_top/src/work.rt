@@ -1,7 +1,9 @@
 ghost use Rattle.std.specs.Prelude.{◌≡◌, MatchResult, Some, None, IfOk, IfErr, map, string_bytes};
 ghost use Rattle.cd_top.specs.Call as spec;
 ghost use Rattle.cd_top.specs.Call.{EndsUntaken, IsLineOf, work_by};
+ghost use Rattle.cd_top.specs.Within.{IsWithin};
 
+use cd_block::BlockId;
 use cd_command::{Status, WordFault};
 use cd_words::{Command, read_words};
 use cd_zero::ZeroName;
@@ -12,10 +14,14 @@ use std::alloc::Global;
 pub enum Work {
     /// The command `zero`, by what its words say of the block's name.
     Zero(ZeroName),
+    /// The command `replay`.
+    Replay,
     /// The command `check`.
     Check,
     /// The command `migrate`.
     Migrate,
+    /// The command `export`, by the block's id and by how many bytes a piece may have.
+    Export { id: BlockId, max: u32 },
     /// The command `gen`, by the number of the feed.
     Gen(u64),
 }
@@ -31,10 +37,12 @@ fn work_in(command: Command) -> Result<Work, Status>
             file,
             ..
         } => Ok(Work::Zero(ZeroName { workchain, file })),
+        Command::Replay { .. } => Ok(Work::Replay),
         Command::Check { .. } => Ok(Work::Check),
         Command::Migrate { .. } => Ok(Work::Migrate),
+        Command::Export { id, max, .. } => Ok(Work::Export { id, max }),
         Command::Gen { number } => Ok(Work::Gen(number)),
-        _ => Err(Status::Usage(WordFault::Usage)),
+        Command::Run { .. } => Err(Status::Usage(WordFault::Usage)),
     }
 }
 
@@ -51,6 +59,7 @@ fn status_by(fault: WordFault) -> Status
 /// What the words ask for, or the status of a call over words that are not taken.
 pub fn work_of(alloc: Global, words: &[String]) -> Result<Work, Status>
     ensures found { IfOk result (λ work. IsLineOf work (map string_bytes words.now)) }
+    ensures within { IfOk result IsWithin }
     ensures other { IfErr result (EndsUntaken (map string_bytes words.now)) }
 {
     match read_words(alloc, words) {

@@ -1,9 +1,10 @@
 use cd_base::{Hash256, MemorySink, MemorySource, Sink, Source, SteadySink, SteadySource};
 use cd_cell::Sha;
 use cd_event::{Entry, Event, Refusal, Reply};
+use cd_feed::FeedFault;
 use cd_keeper::{KeepFault, Keeper, MemoryKeeper, SteadyKeeper};
 use cd_restart::ScanFault;
-use cd_top::{Ended, Status, TopRefusal, celldb_once};
+use cd_top::{Ended, InputFault, Status, TopRefusal, celldb_once};
 use std::alloc::Global;
 use std::test::Fail;
 
@@ -34,7 +35,7 @@ fn call<S: Source, O: Sink, K: Keeper>(
 ) -> Result<Ended<K, Sha>, Fail> {
     let mut words = Vec::new(alloc);
     words.push(String::from_str(alloc, word)?)?;
-    Ok(celldb_once::<S, O, K, Sha>(alloc, &words, input, out, keeper))
+    Ok(celldb_once::<S, O, K, Sha>(alloc, &words, input, out, keeper, Vec::new(alloc)))
 }
 
 /// The command `zero` over these objects.
@@ -60,6 +61,7 @@ fn told(
         status,
         keeper,
         journal: _,
+        clients: _,
     } = call(alloc, word, &mut input, &mut out, keeper)?;
     Ok((status, out.taken().to_vec(alloc)?, keeper))
 }
@@ -110,6 +112,7 @@ fn one_cell_is_stored_and_printed(rt: HostRuntime) -> Result<(), Fail> {
         status,
         mut keeper,
         journal,
+        clients: _,
     } = zero(alloc, &mut input, &mut out, SteadyKeeper::new(alloc))?;
     assert!(rt; matches!(status, Status::Ok));
     assert!(rt; out.taken() == EMPTY_LINES.as_bytes());
@@ -134,6 +137,7 @@ fn a_child_in_four_places_counts_four(rt: HostRuntime) -> Result<(), Fail> {
         status,
         mut keeper,
         journal,
+        clients: _,
     } = zero(alloc, &mut input, &mut out, SteadyKeeper::new(alloc))?;
     assert!(rt; matches!(status, Status::Ok));
     assert!(rt; is_only_entry(&journal, 2, true));
@@ -160,6 +164,7 @@ fn a_source_that_fails_in_mid_stream_stores_nothing(rt: HostRuntime) -> Result<(
         status,
         mut keeper,
         journal,
+        clients: _,
     } = zero(alloc, &mut input, &mut out, SteadyKeeper::new(alloc))?;
     assert!(rt; matches!(status, Status::ReadFault));
     assert!(rt; journal.is_empty());
@@ -177,6 +182,7 @@ fn a_sink_that_fails_leaves_the_block_stored(rt: HostRuntime) -> Result<(), Fail
         status,
         mut keeper,
         journal,
+        clients: _,
     } = zero(alloc, &mut input, &mut out, SteadyKeeper::new(alloc))?;
     assert!(rt; matches!(status, Status::WriteFault));
     assert!(rt; is_only_entry(&journal, 1, true));
@@ -196,6 +202,7 @@ fn a_keeper_that_fails_stores_nothing(rt: HostRuntime) -> Result<(), Fail> {
             status,
             mut keeper,
             journal,
+            clients: _,
         } = zero(alloc, &mut input, &mut out, keeper)?;
         let failed = failing < 5;
         assert!(rt; matches!(status, Status::KeeperFault) == failed);
@@ -276,5 +283,109 @@ fn records_of_the_first_version_are_rewritten(rt: HostRuntime) -> Result<(), Fai
     let (_, out, keeper) = told(alloc, "migrate", &[], keeper)?;
     assert!(rt; out.as_slice() == b"records 1\nrewritten 0\n".as_slice());
     assert!(rt; keeper.batches() == 2);
+    Ok(())
+}
+
+/// The feed of no phase.
+const NO_PHASE: [u8; 6] = *b"cdf1\0\0";
+
+/// The feed of one task, which stores the cell without bits and references as the masterchain's zero state.
+fn one_zero(alloc: Global) -> Result<Vec<u8>, Fail> {
+    let mut feed = b"cdf1\0\x01\0\x01\0\x01\x01".to_vec(alloc)?;
+    // The block: its workchain, shard and seqno, its two hashes; then no tops, and the bag.
+    feed.extend_from_slice(&[
+        0xff, 0xff, 0xff, 0xff, 0x80, 0, 0, 0, 0, 0, 0, 0, 0, 0, 0, 0,
+    ])?;
+    feed.extend_from_slice(&EMPTY.0)?;
+    feed.extend_from_slice(&[0; 32])?;
+    feed.extend_from_slice(&[0, 0, 0, 0, 13])?;
+    feed.extend_from_slice(&ONE_CELL)?;
+    Ok(feed)
+}
+
+const NO_LINES: &str = "blocks 0\ncells 0\ncounts 0\ntasks 0 ok 0 refused\n";
+
+const STORED_LINES: &str =
+    "0.0.0 zero ok 96a296d224f285c67bee93c30f8a309157f0daa35dc5b87e410b78630a09cfc7 cells 1\nblocks 1\ncells 1\ncounts 1\ntasks 1 ok 0 refused\n";
+
+const FAILED_LINES: &str =
+    "0.0.0 zero refused Keeper\nblocks 0\ncells 0\ncounts 0\ntasks 0 ok 1 refused\n";
+
+#[test]
+fn feeds_are_done_and_told(rt: HostRuntime) -> Result<(), Fail> {
+    let alloc = rt.alloc();
+    let (status, out, keeper) = told(alloc, "replay", &NO_PHASE, SteadyKeeper::new(alloc))?;
+    assert!(rt; matches!(status, Status::Ok));
+    assert!(rt; out.as_slice() == NO_LINES.as_bytes() && keeper.batches() == 0);
+    let feed = one_zero(alloc)?;
+    let (status, out, keeper) = told(alloc, "replay", &feed, keeper)?;
+    assert!(rt; matches!(status, Status::Ok));
+    assert!(rt; out.as_slice() == STORED_LINES.as_bytes() && keeper.batches() == 1);
+    let mut cut = one_zero(alloc)?;
+    cut.pop();
+    let (status, out, keeper) = told(alloc, "replay", &cut, keeper)?;
+    let found =
+        matches!(status, Status::BadInput(InputFault::Feed(FeedFault::Cut { at })) if at == cut.len() as u64);
+    assert!(rt; found && out.is_empty() && keeper.batches() == 1);
+    Ok(())
+}
+
+#[test]
+fn a_feed_is_told_though_the_keeper_failed_an_entry(rt: HostRuntime) -> Result<(), Fail> {
+    let alloc = rt.alloc();
+    let feed = one_zero(alloc)?;
+    // The opening makes three calls, the one task two, and the totals two where a cell is held.
+    for failing in 0..8 {
+        let mut input = SteadySource::new(feed.to_vec(alloc)?);
+        let mut out = SteadySink::new(alloc);
+        let keeper = MemoryKeeper::new(alloc, [failing].to_vec(alloc)?);
+        let Ended {
+            status,
+            keeper,
+            journal,
+            clients: _,
+        } = call(alloc, "replay", &mut input, &mut out, keeper)?;
+        let lines = match failing {
+            3 | 4 => FAILED_LINES,
+            7 => STORED_LINES,
+            _ => "",
+        };
+        assert!(rt; matches!(status, Status::KeeperFault) == (failing < 7));
+        assert!(rt; out.taken() == lines.as_bytes());
+        assert!(rt; journal.is_empty() == (failing < 3));
+        assert!(rt; failing < 3 || is_only_entry(&journal, 1, failing > 4));
+        assert!(rt; keeper.batches() == u64::from(failing > 4));
+    }
+    Ok(())
+}
+
+#[test]
+fn a_feed_over_a_failing_source_and_sink(rt: HostRuntime) -> Result<(), Fail> {
+    let alloc = rt.alloc();
+    let feed = one_zero(alloc)?;
+    let mut input = MemorySource::new(feed.to_vec(alloc)?, [1].to_vec(alloc)?);
+    let mut out = SteadySink::new(alloc);
+    let Ended {
+        status,
+        keeper,
+        journal,
+        clients: _,
+    } = call(
+        alloc,
+        "replay",
+        &mut input,
+        &mut out,
+        SteadyKeeper::new(alloc),
+    )?;
+    assert!(rt; matches!(status, Status::ReadFault) && journal.is_empty());
+    let mut input = SteadySource::new(feed);
+    let mut out = MemorySink::new(alloc, [0].to_vec(alloc)?);
+    let Ended {
+        status,
+        keeper: _,
+        journal,
+        clients: _,
+    } = call(alloc, "replay", &mut input, &mut out, keeper)?;
+    assert!(rt; matches!(status, Status::WriteFault) && is_only_entry(&journal, 1, true));
     Ok(())
 }

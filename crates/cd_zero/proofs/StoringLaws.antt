@@ -25,7 +25,8 @@ use Rattle.cd_command.specs.Printing.{HasGot, HasFailed, PrintingEnds}
 use Rattle.cd_command.specs.Opening.{IsUnopenedBy, LeadsTo}
 use Rattle.cd_zero.specs.declared.name.ZeroName.{ZeroName}
 use Rattle.cd_zero.specs.Storing.{TellingEnds}
-use Rattle.cd_zero.specs.Zero.{first_task, zero_id, zero_text, status_by_store, state_at, IsListOf}
+use Rattle.cd_command.specs.Naming.{first_task}
+use Rattle.cd_zero.specs.Zero.{zero_id, zero_text, status_by_store, state_at, IsListOf}
 use Rattle.cd_zero.specs.ZeroCall.{IsEntry, IsStored, StoringEnds}
 use Rattle.cd_zero.proofs.FirstStores.{first-stored}
 
@@ -46,6 +47,7 @@ module _ (H : List ℕ → Hash256) {K O X : Type 0} (k : KeeperGhosts K) (o : S
   unopened-ends journal out keeper keeper_after (status.BadInput fault) un none = un
   unopened-ends journal out keeper keeper_after status.ReadFault un none = un
   unopened-ends journal out keeper keeper_after status.WriteFault un none = absurd un
+  unopened-ends journal out keeper keeper_after status.ClientFault un none = absurd un
   unopened-ends journal out keeper keeper_after (status.Refused refusal) un none = absurd un
 
   module _ (listed : PreparedView) (lists : IsListOf H state listed) (journal : List (Entry X)) (out out_after : O) (keeper keeper_after : K)
@@ -74,6 +76,7 @@ module _ (H : List ℕ → Hash256) {K O X : Type 0} (k : KeeperGhosts K) (o : S
     printed text (status.Damaged fault) is so done = absurd done
     printed text status.ReadFault is so done = absurd done
     printed text status.KeeperFault is so done = absurd done
+    printed text status.ClientFault is so done = absurd done
     printed text (status.Refused refusal) is so done = absurd done
     printed text status.Memory is so done = absurd done
 

@@ -8,7 +8,6 @@ use Rattle.cd_block.specs.Spelling.{id_text}
 use Rattle.cd_cell.specs.Export.{IsClashFree, distinct_cells}
 use Rattle.cd_cell.specs.PreparedView.{PreparedView}
 use Rattle.cd_cell.specs.Tree.{Tree, rep_of}
-use Rattle.cd_event.specs.declared.names.Who.{Who}
 use Rattle.cd_event.specs.declared.refusal.Refusal.{Refusal}
 use Rattle.cd_event.specs.declared.refusal.Refusal.TheVariants as store
 use Rattle.cd_prepare.specs.States.{IsWhole}
@@ -41,10 +40,6 @@ world_of id state = record {
 -- the state of a block
 abbrev pub state_at : ToldWorld → BlockId → Tree
 state_at t id = t.state id
-
--- who makes the one event of the command
-abbrev pub first_task : Who
-first_task = record { phase = 0; worker = 0; task = 0 }
 
 -- the block's name, and the number of its cells, a line each
 unfoldable pub block_text : BlockId → ℕ → List ℕ

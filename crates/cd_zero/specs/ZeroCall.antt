@@ -1,10 +1,9 @@
 -- Trusted: how the command `zero` ends: what each status says of the input, the output, the journal and the keeper.
-use Rattle.std.specs.Prelude.{◌≡◌, ◌≢◌, ◌⊎◌, ℕ, ◌<◌, ◌≤◌, List, [], ◌∷◌, length, Some, IfSome}
+use Rattle.std.specs.Prelude.{◌≡◌, ◌≢◌, ◌⊎◌, ℕ, List, [], ◌∷◌, length, Some, IfSome}
 use Rattle.cd_base.specs.declared.hash.Hash256.{Hash256}
 use Rattle.cd_base.specs.declared.source.Source.{Ghosts as SourceGhosts}
 use Rattle.cd_base.specs.declared.sink.Sink.{Ghosts as SinkGhosts}
 use Rattle.cd_base.specs.Counts.{Rose}
-use Rattle.cd_base.specs.Told.{IsAtEnd}
 use Rattle.cd_cell.specs.PreparedView.{PreparedView}
 use Rattle.cd_cell.specs.Tree.{Tree, mask_of, rep_of}
 use Rattle.cd_event.specs.declared.entry.Entry.{Entry}
@@ -20,16 +19,18 @@ use Rattle.cd_boc_read.specs.BagFaults.{bag_fault}
 use Rattle.cd_world.specs.Image.{IsContentsOf}
 use Rattle.cd_world.specs.Told.{ToldWorld, told_replay}
 use Rattle.cd_restart.specs.OpenEnds.{IsLeft}
+use Rattle.cd_command.specs.declared.limits.TheConstants.{INPUT_LIMIT}
 use Rattle.cd_command.specs.Printing.{NoFault, HasGot, HasFailed}
+use Rattle.cd_command.specs.Reading.{IsInput, IsLong}
 use Rattle.cd_command.specs.Untouched.{AreSame}
 use Rattle.cd_command.specs.Opening.{IsUnopenedBy, IsIdle, LeadsTo}
 use Rattle.cd_command.specs.declared.status.Status.{Status}
 use Rattle.cd_command.specs.declared.status.Status.TheVariants as status
 use Rattle.cd_command.specs.declared.status.InputFault.TheVariants as input
 use Rattle.cd_command.specs.declared.status.TopRefusal.TheVariants as refusal
-use Rattle.cd_zero.specs.declared.limits.TheConstants.{INPUT_LIMIT}
 use Rattle.cd_zero.specs.declared.name.ZeroName.{ZeroName}
-use Rattle.cd_zero.specs.Zero.{first_task, zero_id, zero_world, zero_text, state_at, IsListOf}
+use Rattle.cd_command.specs.Naming.{first_task}
+use Rattle.cd_zero.specs.Zero.{zero_id, zero_world, zero_text, state_at, IsListOf}
 
 module _ (H : List ℕ → Hash256) where
   -- the bytes are a bag of this one tree, and its root is of level 0
@@ -48,19 +49,6 @@ module _ (H : List ℕ → Hash256) where
   IsRefusal bytes _ = ⊥
 
 -- A source S, a sink O and a keeper K are seen by what their traits tell of them, before the call and after it.
-module _ {S : Type 0} (s : SourceGhosts S) where
-  -- the input was these bytes, and was read to its end without a fault
-  pub record IsInput (bytes : List ℕ) (old new : S) : Type 0 where
-    pub all : IfSome (s.left old) (λ left. left ≡ bytes)
-    pub end : IsAtEnd (s.left new)
-    pub within : length bytes ≤ INPUT_LIMIT
-    pub steady : NoFault (s.faults old) (s.faults new)
-
-  -- it was longer than an input may be, and was read as far without a fault
-  pub record IsLong (old new : S) : Type 0 where
-    pub more : IfSome (s.left old) (λ left. INPUT_LIMIT < length left)
-    pub steady : NoFault (s.faults old) (s.faults new)
-
 module _ (H : List ℕ → Hash256) {S : Type 0} (s : SourceGhosts S) where
   -- the input was a bag of this state
   pub record IsOfState (state : Tree) (old new : S) : Type 0 where

@@ -1,12 +1,11 @@
 ghost use Rattle.cd_zero.specs.ZeroCall.{ZeroEnds};
 
-use crate::limits::INPUT_LIMIT;
 use crate::name::ZeroName;
 use crate::preparing::prepared_of;
 use crate::storing::store;
-use cd_base::{ReadAllFault, Sink, Source, read_all};
+use cd_base::{Sink, Source};
 use cd_cell::Hash32;
-use cd_command::{Finished, InputFault, Status};
+use cd_command::{Finished, read_input};
 use cd_keeper::Keeper;
 use std::alloc::Global;
 
@@ -23,13 +22,9 @@ pub fn zero<S: Source, O: Sink, K: Keeper, H: Hash32>(
     ensures { ZeroEnds H.digest_of S.Source O.Sink K.Keeper name input.old input.new out.old out.new
         keeper result.keeper result.journal.items result.status }
 {
-    let bytes = match read_all(alloc, input, INPUT_LIMIT) {
+    let bytes = match read_input(alloc, input) {
         Ok(bytes) => bytes,
-        Err(ReadAllFault::Failed) => return Finished::of(alloc, Status::ReadFault, keeper),
-        Err(ReadAllFault::Long { limit }) => {
-            return Finished::of(alloc, Status::BadInput(InputFault::Long { limit }), keeper);
-        }
-        Err(ReadAllFault::Memory) => return Finished::of(alloc, Status::Memory, keeper),
+        Err(status) => return Finished::of(alloc, status, keeper),
     };
     match prepared_of::<H>(alloc, bytes) {
         Ok(prepared) => store(alloc, name, prepared, out, keeper),

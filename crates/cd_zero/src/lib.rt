@@ -2,11 +2,9 @@
 #![tactic(auto)]
 
 mod command;
-mod limits;
 mod name;
 mod preparing;
 mod storing;
 
 pub use command::zero;
-pub use limits::INPUT_LIMIT;
 pub use name::ZeroName;

@@ -6,7 +6,8 @@ ghost use Rattle.cd_event.specs.declared.event.Event.TheVariants.{Zero};
 ghost use Rattle.cd_event.specs.Replies.{entries_of, zero_refusal, zero_reply};
 ghost use Rattle.cd_event.specs.Turning.{is_keeper, RisesOnly};
 ghost use Rattle.cd_core.specs.Cores.{IsCore};
-ghost use Rattle.cd_zero.specs.Zero.{first_task, status_by_store, IsListOf};
+ghost use Rattle.cd_command.specs.Naming.{first_task};
+ghost use Rattle.cd_zero.specs.Zero.{status_by_store, IsListOf};
 ghost use Rattle.cd_zero.specs.Storing.{TellingEnds};
 ghost use Rattle.cd_zero.specs.ZeroCall.{StoringEnds};
 
@@ -14,18 +15,11 @@ use crate::name::{ZeroName, block_text, id_of};
 use cd_base::Sink;
 use cd_block::{BlockId, BlockIds};
 use cd_cell::{Hash32, Prepared};
-use cd_command::{Finished, Status, TopRefusal, open_store, print};
+use cd_command::{FIRST_TASK, Finished, Status, TopRefusal, open_store, print};
 use cd_core::Core;
-use cd_event::{Entry, Refusal, Stored, Who, ZeroFault};
+use cd_event::{Entry, Refusal, Stored, ZeroFault};
 use cd_keeper::Keeper;
 use std::alloc::Global;
-
-/// The command's one event is that of the first task.
-const FIRST_TASK: Who = Who {
-    phase: 0,
-    worker: 0,
-    task: 0,
-};
 
 /// What a core answered to one state, and what it left.
 struct Taken<K, H: Hash32> {

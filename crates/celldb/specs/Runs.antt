@@ -1,5 +1,5 @@
 -- Trusted: what a run of the program does: how its call ends, its exit status, and its line on standard error.
-use Rattle.std.specs.Prelude.{◌≡◌, ◌⊎◌, ℕ, List}
+use Rattle.std.specs.Prelude.{◌≡◌, ◌⊎◌, ℕ, Bool, List, Option}
 use Rattle.cd_base.specs.declared.hash.Hash256.{Hash256}
 use Rattle.cd_base.specs.declared.source.Source.{Ghosts as SourceGhosts}
 use Rattle.cd_base.specs.declared.sink.Sink.{Ghosts as SinkGhosts}
@@ -18,13 +18,16 @@ HasSaid e status old new =
     Got (e.taken old) (e.taken new) (line_of status)
     ⊎ (Rose (e.faults old) (e.faults new) × GotPart (e.taken old) (e.taken new) (line_of status))
 
-module _ (H : List ℕ → Hash256) {S O E K : Type 0} (s : SourceGhosts S) (o : SinkGhosts O) (e : SinkGhosts E) (k : KeeperGhosts K) (X : Type 0) where
+module _ (H : List ℕ → Hash256) {S O E K : Type 0} (s : SourceGhosts S) (o : SinkGhosts O) (e : SinkGhosts E) (k : KeeperGhosts K) (X : Type 0)
+    {C : Type 0} (got : C → Option (List ℕ)) (steady : C → Bool) where
   -- the call ended with this status, which is told by the exit status and the line on standard error
-  pub record IsRun (words : List (List ℕ)) (i j : S) (out out_after : O) (err err_after : E) (kept : K) (code : ℕ) : Type 0 where
+  pub record IsRun (words : List (List ℕ)) (i j : S) (out out_after : O) (err err_after : E) (kept : K)
+      (clients : List C) (code : ℕ) : Type 0 where
     pub status : Status
     pub kept_after : K
+    pub left : List C
     pub journal : List (Entry X)
-    pub ended : Ends H s o k words i j out out_after kept kept_after journal status
+    pub ended : Ends H s o k got steady words i j out out_after kept kept_after clients left journal status
     pub coded : code ≡ code_of status
     pub said : HasSaid e status err err_after
 

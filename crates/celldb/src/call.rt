@@ -2,12 +2,14 @@ ghost use Rattle.std.specs.Prelude.{◌≡◌, ◌≢◌, ℕ, List, None, IfOk,
 ghost use Rattle.std.specs.Process.{exit_status};
 ghost use Rattle.cd_command.specs.Printing.{TextEnds};
 ghost use Rattle.cd_command.specs.StatusText.{code_of};
+ghost use Rattle.cd_fan.specs.Fans.{HaveGotBytes};
 ghost use Rattle.cd_words.specs.Pages.{page_of};
 ghost use Rattle.celldb.specs.Databases.{IsDatabase, keeper_status, path_in};
 ghost use Rattle.celldb.specs.Runs.{HasSaid, IsRun, IsPage};
 
 use cd_base::{Memory, Sink, Source, write_all};
 use cd_cell::Hash32;
+use cd_fan::{Client, SliceClient};
 use cd_keeper::{KeepFault, Keeper};
 use cd_top::{Ended, Status, WordFault, celldb_once};
 use cd_words::{Command, Page, page_of, page_text, read_words};
@@ -102,10 +104,13 @@ pub fn run<S: Source, O: Sink, E: Sink, K: Keeper, H: Hash32>(
     out: &mut O,
     err: &mut E,
     keeper: K,
+    clients: Vec<Client>,
 ) -> ExitCode
+    requires fresh { HaveGotBytes (λ c. got c) 0 clients.items }
     ensures call { page_of (map string_bytes words.now) ≡ None
-        → IsRun H.digest_of S.Source O.Sink E.Sink K.Keeper H (map string_bytes words.now)
-        input.old input.new out.old out.new err.old err.new keeper (exit_status result) }
+        → IsRun H.digest_of S.Source O.Sink E.Sink K.Keeper H (λ c. got c) (λ c. steady c)
+        (map string_bytes words.now) input.old input.new out.old out.new err.old err.new
+        keeper clients.items (exit_status result) }
     ensures page { page_of (map string_bytes words.now) ≢ None
         → IsPage S.Source O.Sink E.Sink input.old input.new out.old out.new err.old err.new (exit_status result) }
 {
@@ -116,6 +121,7 @@ pub fn run<S: Source, O: Sink, E: Sink, K: Keeper, H: Hash32>(
         status,
         keeper: _,
         journal: _,
-    } = celldb_once::<S, O, K, H>(alloc, words, input, out, keeper);
+        clients: _,
+    } = celldb_once::<S, O, K, H>(alloc, words, input, out, keeper, clients);
     end(status, err)
 }

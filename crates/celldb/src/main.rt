@@ -37,7 +37,13 @@ fn main(rt: HostRuntime) -> ExitCode {
     match database_of(alloc, behind) {
         Ok(Some(path)) => match SqlKeeper::open(&rt, path.as_str()) {
             Ok(keeper) => run::<_, _, _, _, Sha>(
-                alloc, behind, &mut input, &mut out, &mut err, keeper,
+                alloc,
+                behind,
+                &mut input,
+                &mut out,
+                &mut err,
+                keeper,
+                Vec::new(alloc),
             ),
             Err(fault) => end(status_of_keeper(fault), &mut err),
         },
@@ -48,6 +54,7 @@ fn main(rt: HostRuntime) -> ExitCode {
             &mut out,
             &mut err,
             SteadyKeeper::new(alloc),
+            Vec::new(alloc),
         ),
         Err(_) => end(Status::Memory, &mut err),
     }

@@ -14,6 +14,8 @@ pub enum End {
     WriteFault,
     /// The input is longer than an input may be. Nothing was printed.
     Long,
+    /// A database file or its log is longer than one may be. Nothing was printed.
+    FileLong,
     /// Memory ran out. Nothing was printed.
     Memory,
 }
@@ -26,7 +28,7 @@ impl End {
         match self {
             End::Done => 0,
             End::Usage => 2,
-            End::ReadFault | End::WriteFault | End::Long | End::Memory => 1,
+            End::ReadFault | End::WriteFault | End::Long | End::FileLong | End::Memory => 1,
         }
     }
 
@@ -40,6 +42,7 @@ impl End {
             End::ReadFault => "inspect: read fault\n",
             End::WriteFault => "inspect: write fault\n",
             End::Long => "inspect: the input is longer than 134217728 bytes\n",
+            End::FileLong => "inspect: the file is longer than 1073741824 bytes\n",
             End::Memory => "inspect: no memory\n",
         }
     }

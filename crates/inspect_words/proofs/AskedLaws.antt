@@ -7,7 +7,7 @@ use Rattle.clap.specs.declared.error.kind.ErrorKind.{ErrorKind}
 use Rattle.clap.specs.declared.error.kind.ErrorKind.TheVariants as kind
 use Rattle.clap.proofs.OnLiterals.{clap_on_literals}
 use Rattle.inspect_words.specs.Commands.{inspect}
-use Rattle.inspect_words.specs.Modes.{IsOfText, IsText, MayShowText, ShowsText, asked_mode, mode_in, mode_of, unless_at_fault}
+use Rattle.inspect_words.specs.Modes.{IsOfText, IsText, MayShowText, ShowsText, asked_mode, asked_path, mode_in, mode_of, path_in, path_of, unless_at_fault}
 use Rattle.inspect_words.specs.declared.asked.Asked.{Asked}
 use Rattle.inspect_words.specs.declared.mode.Mode.{Mode}
 
@@ -32,11 +32,20 @@ pub asked-found : (words : List Text) (found : Option (Text × List Row)) → fa
 asked-found words found none is =
     ap mode_in is ∙ ap (λ ks. unless_at_fault ks (mode_in (subcommand_of inspect words))) (sym none)
 
+pub asked-path : (words : List Text) (found : Option (Text × List Row)) → fault_of inspect words ≡ [] → found ≡ subcommand_of inspect words → path_in found ≡ asked_path words
+asked-path words found none is =
+    ap path_in is ∙ ap (λ ks. unless_at_fault ks (path_in (subcommand_of inspect words))) (sym none)
+
+-- what is asked for by the matches is asked for by the words
+pub matched : {A : Type 0} (r : Result Asked AllocError) (of : Asked → A) (a b : A) → IfOk r (λ x. of x ≡ a) → a ≡ b → IfOk r (λ x. of x ≡ b)
+matched (Ok x) of a b is e = is ∙ e
+matched (Err x) of a b is e = tt
+
 pub shown-found : (words : List Text) → fault_of inspect words ≡ [] → ShowsText words → ⊥
 shown-found words none (inl e) = no_fault _ (fault_of inspect words) none e
 shown-found words none (inr e) = no_fault _ (fault_of inspect words) none e
 
-at_fault : (k : ErrorKind) (ks : Kinds) (m : Option Mode) → IsAmong k ks → None ≡ unless_at_fault ks m
+at_fault : {T : Type 0} (k : ErrorKind) (ks : Kinds) (m : Option T) → IsAmong k ks → None ≡ unless_at_fault ks m
 at_fault k [] m among = absurd among
 at_fault k (x ∷ xs) m among = refl
 
@@ -48,6 +57,10 @@ module _ (words : List Text) (k : ErrorKind) (known : (k ≡ kind.OutOfMemory) �
   pub asked-refused : (r : Result Asked AllocError) → IfOk r (λ _. k ≢ kind.OutOfMemory) → IfOk r (λ a. mode_of a ≡ None) → IfOk r (λ a. mode_of a ≡ asked_mode words)
   asked-refused (Ok a) other none = none ∙ at_fault k (fault_of inspect words) (mode_in (subcommand_of inspect words)) (among other)
   asked-refused (Err e) other none = tt
+
+  pub path-refused : (r : Result Asked AllocError) → IfOk r (λ _. k ≢ kind.OutOfMemory) → IfOk r (λ a. path_of a ≡ None) → IfOk r (λ a. path_of a ≡ asked_path words)
+  path-refused (Ok a) other none = none ∙ at_fault k (fault_of inspect words) (path_in (subcommand_of inspect words)) (among other)
+  path-refused (Err e) other none = tt
 
   pub text-refused : (r : Result Asked AllocError) → IfOk r (λ _. k ≢ kind.OutOfMemory) → IfOk r (λ a. IsText a ↔ IsOfText k) → IfOk r (λ a. IsText a → MayShowText words)
   text-refused (Ok a) other text = λ is.

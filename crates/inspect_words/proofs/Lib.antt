@@ -1,2 +1,3 @@
 pub mod AskedLaws
+mod Paths
 pub mod PlainLines

@@ -1,5 +1,5 @@
 -- Trusted: what words ask for, by what a parse of them finds.
-use Rattle.std.specs.Prelude.{◌≡◌, ◌⊎◌, ⊤, Bool, true, false, List, [], ◌∷◌, Option, Some, None, codes, if◌then◌else◌}
+use Rattle.std.specs.Prelude.{◌≡◌, ◌⊎◌, ⊤, Bool, true, false, List, [], ◌∷◌, Option, Some, None, codes, string_bytes, if◌then◌else◌}
 use Rattle.std.specs.Option.{option_map_or}
 use Rattle.std.specs.Str.{bytes_eq}
 use Rattle.clap.specs.Words.{Row, Text, first_of, subcommand_of, fault_of, Kinds, IsAmong}
@@ -36,17 +36,36 @@ command_mode name rows =
 abbrev pub mode_in : Option (Text × List Row) → Option Mode
 mode_in found = option_map_or (λ f. command_mode f.0 f.1) found None
 
-abbrev pub unless_at_fault : Kinds → Option Mode → Option Mode
-unless_at_fault [] m = m
-unless_at_fault (k ∷ ks) m = None
+abbrev pub command_path : Text → List Row → Option Text
+command_path name rows = if bytes_eq name (codes "store") then first_of (codes "PATH") rows else None
+
+-- the path of a database file by the command that was found, and its value
+abbrev pub path_in : Option (Text × List Row) → Option Text
+path_in found = option_map_or (λ f. command_path f.0 f.1) found None
+
+abbrev pub unless_at_fault : {T : Type 0} → Kinds → Option T → Option T
+unless_at_fault [] wanted = wanted
+unless_at_fault (k ∷ ks) wanted = None
 
 -- the mode that words ask for: a parse finds no fault in them, and finds its command and flags
 abbrev pub asked_mode : List Text → Option Mode
 asked_mode words = unless_at_fault (fault_of inspect words) (mode_in (subcommand_of inspect words))
 
+-- the path of the database file that words ask about
+abbrev pub asked_path : List Text → Option Text
+asked_path words = unless_at_fault (fault_of inspect words) (path_in (subcommand_of inspect words))
+
+-- the words ask for nothing that the program does
+abbrev pub AskNothing : List Text → Type 0
+AskNothing words = (asked_mode words ≡ None) × (asked_path words ≡ None)
+
 abbrev pub mode_of : Asked → Option Mode
 mode_of (asked.Work m) = Some m
 mode_of _ = None
+
+abbrev pub path_of : Asked → Option Text
+path_of (asked.Store path) = Some (string_bytes path)
+path_of _ = None
 
 abbrev pub IsText : Asked → Type 0
 IsText (asked.Text text) = ⊤

@@ -9,7 +9,7 @@ use std::alloc::{AllocError, Global};
 const VERSION: &str = "1";
 
 const TOP_EXAMPLE: &str = "\
-For each bag, update or feed there is a line on standard output: what it has, or the first fault with its fields.
+For each bag, update, feed or store there is a line on standard output: what it has, or the first fault with its fields.
 The status is 0 where all was read and printed, 1 where that failed, and 2 where the words are unknown.
 
 Example:
@@ -59,6 +59,15 @@ Example:
     $ inspect feed < feed.bin
     ok phases 1 tasks 1
     0.0.0 zero (-1,8000000000000000,0):96a2..:0000.. tops 0 bag 13";
+
+const STORE_EXAMPLE: &str = "\
+Reads a database file of the store, and the log beside it, whose name is the file's with `-wal` behind it. There is a line
+`ok blocks N cells N counts N`: the blocks, the distinct cells, and all references to cells together. Where the file isn't
+a store, there is the first thing that is wrong with it. Both files are only read.
+
+Example:
+    $ inspect store node.db
+    ok blocks 14 cells 5170 counts 6578";
 
 /// An option without a value.
 fn flag<'a>(alloc: Global, name: &'a str, help: &'a str) -> Arg<'a>
@@ -130,6 +139,23 @@ fn feed<'a>(alloc: Global) -> Command<'a>
         .after_help(FEED_EXAMPLE)
 }
 
+/// The command `store`.
+fn store<'a>(alloc: Global) -> Result<Command<'a>, AllocError>
+    ensures app { IfOk result (λ command. app_of command ≡ spec.store) }
+    ensures local { IfOk result (λ command. (fields_of command).has_globals ≡ false) }
+{
+    Command::new(alloc, "store")
+        .about("Says of a database file how much it holds, or why it isn't a store")
+        .override_usage("inspect store <PATH>")
+        .after_help(STORE_EXAMPLE)
+        .arg(
+            Arg::new(alloc, "PATH")
+                .required(true)
+                .action(ArgAction::Set)
+                .help("The database file"),
+        )
+}
+
 /// The commands on bags and on updates of one state.
 fn first_commands<'a>(alloc: Global) -> Result<Command<'a>, AllocError>
     ensures { IfOk result (λ command. app_of command ≡ spec.first_commands) }
@@ -137,7 +163,7 @@ fn first_commands<'a>(alloc: Global) -> Result<Command<'a>, AllocError>
     Command::new(alloc, "inspect")
         .version(VERSION)
         .about(
-            "Says of bags of cells, Merkle updates and feeds what they have, or why they are refused",
+            "Says of bags of cells, Merkle updates, feeds and stores what they have, or why they are refused",
         )
         .after_help(TOP_EXAMPLE)
         .no_binary_name(true)
@@ -153,5 +179,6 @@ pub(crate) fn inspect<'a>(alloc: Global) -> Result<Command<'a>, AllocError>
 {
     first_commands(alloc)?
         .subcommand(merged(alloc))?
-        .subcommand(feed(alloc))
+        .subcommand(feed(alloc))?
+        .subcommand(store(alloc)?)
 }

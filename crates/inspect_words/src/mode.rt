@@ -1,5 +1,6 @@
-ghost use Rattle.std.specs.Prelude.{◌≡◌, ℕ, List, codes};
+ghost use Rattle.std.specs.Prelude.{◌≡◌, ℕ, List, codes, option_map};
 ghost use Rattle.clap.specs.Words.{found_of, rows_of, subcommand_rows_of};
+ghost use Rattle.inspect_words.specs.Modes as spec;
 ghost use Rattle.inspect_words.specs.Modes.{is_set, bags_mode, mode_in};
 
 use clap::ArgMatches;
@@ -33,6 +34,16 @@ fn is_given(flags: &ArgMatches<'_>, flag: &str) -> bool
     match flags.get_str(flag) {
         Some(value) => value == "true",
         None => false,
+    }
+}
+
+/// The path that the matches of the words have, if they ask about a database file.
+pub(crate) fn path_in<'a>(matches: &ArgMatches<'a>) -> Option<&'a str>
+    ensures { option_map (λ path. path.now) result ≡ spec.path_in (subcommand_rows_of matches.now) }
+{
+    match matches.subcommand() {
+        Some(("store", values)) => values.get_str("PATH"),
+        _ => None,
     }
 }
 

@@ -4,13 +4,11 @@ use Rattle.cd_gen.specs.States.{sha, bits_of, leaf_text, leaf, over, is_written,
 use Rattle.cd_gen.specs.Listing.{infos_of, IsListedAfter}
 use Rattle.cd_gen.proofs.ListingLaws.{turned-some, length-infos_of, full-plain, after-hidden, after-alone, after-pair}
 use Rattle.cd_gen.proofs.WriterLaws.{writer_of-written, writer_of-other, asked, none_written, one_written, full-same, full-leaf, full-over, twice-half, shown-hidden, shown-leaf, shown-over}
+use Rattle.cd_gen.proofs.HalfLaws.{infos-some, infos-long, infos-halves}
 use Rattle.cd_gen.proofs.updates.+list_after.Goals as goal
 
 pub root_of-requires : goal.root_of-requires
-root_of-requires t c =
-    let block = c.args.block.now in
-    let e = ap length c.requires.state in
-    omega (arith, e, turned-some (info_of sha) (full block.owner.number block.owner.chain (block.seqno - 1) c.args.levels c.args.first))
+root_of-requires t c = let block = c.args.block.now in infos-some block.owner.number block.owner.chain (block.seqno - 1) c.args.levels c.args.first c.args.state.now c.requires.state
 
 pub returns-then-not-writes_some : goal.returns-then-not-writes_some
 returns-then-not-writes_some t c =
@@ -47,42 +45,19 @@ returns-then-levels-eq0 t c =
     (after-alone c.list_kept.result (bits_of (leaf_text number chain first block.seqno)) c.leaf.result c.args.cells.now.items c.list_kept.new.cells.items c.args.infos.now.items c.list_kept.new.infos.items c.leaf.ensures c.list_kept.ensures.listed c.list_kept.ensures.kept c.list_kept.ensures.info))
 
 pub halves-requires-clause-long : goal.halves-requires-clause-long
-halves-requires-clause-long t c =
-    let block = c.args.block.now in
-    let number = block.owner.number in
-    let chain = block.owner.chain in
-    let levels = c.args.levels in
-    let first = c.args.first in
-    let e = ap length c.requires.state in
-    omega (arith, e, length-infos_of number chain (block.seqno - 1) levels first, twice-half levels (omega arith))
+halves-requires-clause-long t c = let block = c.args.block.now in infos-long block.owner.number block.owner.chain (block.seqno - 1) c.args.levels c.args.first c.args.state.now c.requires.state (omega arith)
 
 pub list_after-requires : goal.list_after-requires
 list_after-requires t c =
     let block = c.args.block.now in
-    let number = block.owner.number in
-    let chain = block.owner.chain in
-    let levels = c.args.levels in
-    let first = c.args.first in
-    let below = levels - 1 in
-    let half : ℕ → Tree = full number chain (block.seqno - 1) below in
-    let both =
-    c.halves.ensures (half first) (half (first + 2 ^ below)) (length-infos_of number chain (block.seqno - 1) below first) (length-infos_of number chain (block.seqno - 1) below (first + 2 ^ below))
-    (c.requires.state ∙ ap infos_of (full-over number chain (block.seqno - 1) levels first (omega arith))) in
-    (omega arith, (omega arith, (omega (arith, twice-half levels (omega arith), c.leaves_under-2.ensures), both.0 ∙ ap (λ (k : ℕ). infos_of (half (first + k))) (sym c.leaves_under-2.ensures))))
+    let both = infos-halves block.owner.number block.owner.chain (block.seqno - 1) c.args.levels c.args.first c.args.state.now c.requires.state (omega arith) c.leaves_under-2.result c.leaves_under-2.ensures c.halves.result.0.now c.halves.result.1.now c.halves.ensures in
+    (omega arith, (omega arith, (omega (arith, twice-half c.args.levels (omega arith), c.leaves_under-2.ensures), both.0)))
 
 pub list_after-requires-2 : goal.list_after-requires-2
 list_after-requires-2 t c =
     let block = c.args.block.now in
-    let number = block.owner.number in
-    let chain = block.owner.chain in
-    let levels = c.args.levels in
-    let first = c.args.first in
-    let below = levels - 1 in
-    let half : ℕ → Tree = full number chain (block.seqno - 1) below in
-    let both =
-    c.halves.ensures (half first) (half (first + 2 ^ below)) (length-infos_of number chain (block.seqno - 1) below first) (length-infos_of number chain (block.seqno - 1) below (first + 2 ^ below))
-    (c.requires.state ∙ ap infos_of (full-over number chain (block.seqno - 1) levels first (omega arith))) in
-    (omega arith, (omega arith, (omega (arith, twice-half levels (omega arith)), both.1)))
+    let both = infos-halves block.owner.number block.owner.chain (block.seqno - 1) c.args.levels c.args.first c.args.state.now c.requires.state (omega arith) c.leaves_under-2.result c.leaves_under-2.ensures c.halves.result.0.now c.halves.result.1.now c.halves.ensures in
+    (omega arith, (omega arith, (omega (arith, twice-half c.args.levels (omega arith)), both.1)))
 
 pub returns : goal.returns
 returns t c =

@@ -1,9 +1,9 @@
-use Rattle.std.proofs.Common.{◌≡◌, inr, Some, append-nil, ap, ap₂, subst, ◌∙◌}
+use Rattle.std.proofs.Common.{◌≡◌, inl, inr, Some, append-nil, refl, sym, ap, ap₂, subst, ◌∙◌}
 use Rattle.std.specs.Option.{option_and_then}
 use Rattle.cd_event.specs.Pins.{state_of, find_pin}
-use Rattle.cd_run.specs.Clients.{Sent}
+use Rattle.cd_run.specs.Clients.{Sent, IsUnserved}
 use Rattle.cd_run.specs.Stages.{is_halted}
-use Rattle.cd_run.proofs.SentLaws.{sent_further}
+use Rattle.cd_run.proofs.SentLaws.{sent_further, stop_unserved}
 use Rattle.cd_feed.specs.declared.feed.Task.TheVariants as task
 use Rattle.cd_run.specs.Finds.{ServeFinds}
 use Rattle.cd_run.specs.Runs.{IsAnyNumber}
@@ -16,6 +16,9 @@ returns-in-Err-clause-did g c =
     rw c.end_of_stop.ensures
     (did_unpinned T.worker T.faults T.made T.goes T.named g.met.T.Turns.further g.T.Hash.Hash32.digest_of c.args.who (task.Serve c.args.id c.args.max) c.args.id IsAnyNumber
     (ServeFinds g.T.Hash.Hash32.digest_of) (λ pins es end run. run) c.args.turns.now c.take_pin.new.turns c.in-Err.stop c.requires.worker c.in-Err.ensures.pinned)
+
+pub returns-in-Err-clause-clients : goal.returns-in-Err-clause-clients
+returns-in-Err-clause-clients g c = inl (refl, subst IsUnserved (sym c.end_of_stop.ensures) (stop_unserved c.in-Err.stop))
 
 pub returns-clause-did : goal.returns-clause-did
 returns-clause-did g c =

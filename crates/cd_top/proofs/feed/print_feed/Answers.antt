@@ -15,6 +15,7 @@ as-text o text out out_after (status.BadInput fault) done = done
 as-text o text out out_after (status.Damaged fault) done = done
 as-text o text out out_after status.ReadFault done = done
 as-text o text out out_after status.KeeperFault done = done
+as-text o text out out_after status.ClientFault done = done
 as-text o text out out_after (status.Refused refusal) done = done
 
 pub returns-in-Ok : goal.returns-in-Ok

@@ -1,0 +1,4 @@
+pub mod OnOpened
+pub mod PinTrees
+pub mod ServeRuns
+pub mod ExportLaws

@@ -1,0 +1,4 @@
+pub mod ExportText
+pub mod Telling
+pub mod Serving
+pub mod ExportCall

@@ -1,0 +1,3 @@
+mod BesideLaws
+mod FeedLaws
+mod CleanLaws

@@ -1,0 +1,4 @@
+pub mod Feeding
+pub mod Told
+pub mod Telling
+pub mod Replaying

@@ -1,0 +1,15 @@
+-- The seats go to the threads, which share the core.
+use Rattle.std.proofs.Common.{rules}
+use Rattle.std.proofs.Crossing.{crosses}
+use denote.Param.Send.{sendable}
+use Rattle.cd_cell.proofs.digest.WeakSum.TheSendSync as weak
+use Rattle.cd_cell.proofs.face.Face.TheSendSync as face
+use Rattle.cd_keeper.proofs.steady.SteadyKeeper.TheSendSync as steady
+use Rattle.cd_shared.proofs.Crosses.{seat_send, db_sync}
+use Rattle.cd_shared_tests.proofs.tests.see_from_both.Goals as goal
+
+pub join-requires-send-F : goal.join-requires-send-F
+join-requires-send-F g c κs within = search (seat_send, db_sync, face.the_sync, steady.the_send, weak.the_send, crosses, sendable, rules) depth 60 fits 20000
+
+pub join-requires-send-A : goal.join-requires-send-A
+join-requires-send-A g c κs within = search (seat_send, steady.the_send, weak.the_send, crosses, sendable, rules) depth 60 fits 20000
