@@ -1,0 +1,5 @@
+//! Tests of whole feeds.
+#![tactic(auto)]
+
+#[cfg(test)]
+mod feeds;
