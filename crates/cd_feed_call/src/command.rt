@@ -59,8 +59,9 @@ pub fn replay<S: Source, O: Sink, K: Keeper, H: Hash32>(
     clients: &mut Vec<Client>,
 ) -> Finished<K, H>
     requires fresh { HaveGotBytes (λ c. got c) 0 clients.old.items }
-    ensures { ReplayEnds H.digest_of S.Source O.Sink K.Keeper (λ c. got c) (λ c. steady c) input.old input.new out.old out.new
-        keeper result.keeper clients.old.items clients.new.items result.journal.items result.status }
+    ensures { ReplayEnds H.digest_of S.Source O.Sink K.Keeper (λ c. got c) (λ c. steady c)
+        input.old input.new out.old out.new keeper result.keeper
+        clients.old.items clients.new.items result.journal.items result.status }
 {
     let feed = match take_feed(alloc, input) {
         Ok(feed) => feed,

@@ -1,5 +1,0 @@
-//! Tests of whole feeds.
-#![tactic(auto)]
-
-#[cfg(test)]
-mod feeds;
