@@ -19,10 +19,11 @@ use std::alloc::Global;
 
 /// One call of the program: `words` are the words behind its name, and the keeper is the one that `--db` names, or else an
 /// empty one. `zero` reads a bag of cells to the end of the input, stores the state as a zero state in one batch, and
-/// writes the block's name and the number of its cells. `check` reads the whole store and writes how much it holds.
-/// `migrate` rewrites old records. `export` sends the bag of a block's state to the clients, and takes those out of the list
-/// that fail. `gen` writes the text of the feed of a number, and asks nothing of the keeper. The other commands are a usage
-/// fault, and nothing is asked of the objects. Every command but `export` leaves the clients alone.
+/// writes the block's name and the number of its cells. `replay` reads a feed to the end of the input, does its tasks one
+/// after another, and writes how each ended. `check` reads the whole store and writes how much it holds. `migrate` rewrites
+/// old records. `export` sends the bag of a block's state to the clients; it and the serve of a `replay` take those out of
+/// the list that fail, and every other command leaves the clients alone. `gen` writes the text of the feed of a number, and
+/// asks nothing of the keeper. `run` is a usage fault, and nothing is asked of the objects.
 ///
 /// Want of memory alone is free; what each other status says stands in `Ends`.
 pub fn celldb_once<S: Source, O: Sink, K: Keeper, H: Hash32>(
