@@ -110,8 +110,10 @@ def killed(prefixes, text, seconds):
         feed.write_bytes(text)
         with feed.open("rb") as source:
             child = subprocess.Popen([prefixes.program, "replay", "--db", path], stdin=source, stdout=subprocess.DEVNULL, stderr=subprocess.DEVNULL)
-            time.sleep(seconds)
-            child.kill()
+            try:
+                child.wait(seconds)
+            except subprocess.TimeoutExpired:
+                child.kill()
         if child.wait() != -signal.SIGKILL:
             return False, True, 0
         checked = subprocess.run([prefixes.program, "check", "--db", path], capture_output=True)
@@ -136,7 +138,7 @@ def main():
     chance, kills, wrong, blocks = random.Random(given.seed), 0, 0, set()
     with concurrent.futures.ThreadPoolExecutor(2) as pool:
         while kills < given.kills:
-            moments = [chance.uniform(0, 1.3 * whole) for _ in range(given.kills - kills)]
+            moments = [chance.uniform(0, whole) for _ in range(given.kills - kills)]
             for was_killed, is_prefix, has in pool.map(lambda seconds: killed(prefixes, text, seconds), moments):
                 kills += was_killed
                 wrong += not is_prefix
