@@ -1,6 +1,3 @@
-ghost use Rattle.std.specs.Prelude.{◌≡◌, ◌≤◌, [], false};
-ghost use Rattle.cd_feed.specs.Feeds.{IsWorkerFit};
-ghost use Rattle.cd_lanes.specs.Lanes.{LeavesAll};
 ghost use Rattle.cd_phases.specs.Sides.{IsReady, LaneRan};
 
 use cd_event::Turns;
@@ -33,14 +30,9 @@ pub(crate) fn run_lane<T: Turns, P: Holdup>(
     lane: &mut Lane<T>,
     holdup: &P,
 )
-    requires fit { IsWorkerFit tasks.now }
-    requires ready { IsReady T.worker (λ c. got c) tasks.now
-        lane.old.worker lane.old.seat lane.old.outcomes.items lane.old.clients.items lane.old.memory }
-    ensures place { lane.new.worker ≡ lane.old.worker }
-    ensures ran { LaneRan T.Hash.digest_of T.worker T.faults T.made T.goes T.named lane.new.memory
-        phase lane.old.worker tasks.now lane.new.outcomes.items lane.old.seat lane.new.seat }
-    ensures clients { LeavesAll (λ c. got c) (λ c. steady c) T.Hash.digest_of (T.named lane.new.seat)
-        tasks.now lane.new.outcomes.items lane.old.clients.items lane.new.clients.items }
+    requires ready { IsReady T.worker (λ l. l.clients.items) (λ c. got c) tasks.now lane.old }
+    ensures { LaneRan T.Hash.digest_of T.worker T.faults T.made T.goes T.named
+        (λ l. l.clients.items) (λ c. got c) (λ c. steady c) phase tasks.now lane.old lane.new }
 {
     match do_tasks(
         alloc,

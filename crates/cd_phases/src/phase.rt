@@ -1,6 +1,4 @@
-ghost use Rattle.std.specs.Prelude.{◌≡◌, ◌<◌, ◌≤◌, ℕ, [], length, slice_index_or};
-ghost use Rattle.cd_feed.specs.Feeds.{IsWorkerFit};
-ghost use Rattle.cd_lanes.specs.Lanes.{LeavesAll};
+ghost use Rattle.std.specs.Prelude.{◌≡◌, ◌<◌, ℕ, [], length, slice_index_or};
 ghost use Rattle.cd_phases.specs.Sides.{IsReady, LaneRan};
 
 use crate::lane::{Lane, run_lane};
@@ -24,12 +22,13 @@ pub fn run_phase<T: Turns<Hash = H> + Send, H: Hash32 + Send + Sync, P: Holdup, 
 )
     requires some { 0 < length lanes.old }
     requires one_each { length lanes.old ≡ length workers.now }
-    requires fit { (k : ℕ) → k < length workers.now → IsWorkerFit (slice_index_or workers.now k []) }
-    requires ready { (k : ℕ) (d : Lane T) → k < length lanes.old
-        → IsReady T.worker (λ c. got c) (slice_index_or workers.now k [])
-            (slice_index_or lanes.old k d).worker (slice_index_or lanes.old k d).seat
-            (slice_index_or lanes.old k d).outcomes.items (slice_index_or lanes.old k d).clients.items
-            (slice_index_or lanes.old k d).memory }
+    requires ready { (k : ℕ) (d : _) → k < length lanes.old
+        → IsReady T.worker (λ l. l.clients.items) (λ c. got c)
+            (slice_index_or workers.now k []) (slice_index_or lanes.old k d) }
+    ensures { (k : ℕ) (d : _) → k < length lanes.old
+        → LaneRan H.digest_of T.worker T.faults T.made T.goes T.named
+            (λ l. l.clients.items) (λ c. got c) (λ c. steady c)
+            phase (slice_index_or workers.now k []) (slice_index_or lanes.old k d) (slice_index_or lanes.new k d) }
 {
     let count = lanes.len();
     for_each_mut(
@@ -37,8 +36,11 @@ pub fn run_phase<T: Turns<Hash = H> + Send, H: Hash32 + Send + Sync, P: Holdup, 
         lanes,
         count,
         &|place: usize, lane: &mut Lane<T>|
-            requires { place < length workers.now }
-            ensures { Unit {0} }
+            requires { (place < length workers.now) × IsReady T.worker (λ l. l.clients.items) (λ c. got c)
+                (slice_index_or workers.now place []) lane.now }
+            ensures { LaneRan H.digest_of T.worker T.faults T.made T.goes T.named
+                (λ l. l.clients.items) (λ c. got c) (λ c. steady c)
+                phase (slice_index_or workers.entry.now place []) lane.old lane.new }
         { run_lane(alloc, phase, workers[place].as_slice(), lane, holdup) },
     );
 }
