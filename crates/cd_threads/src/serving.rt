@@ -1,5 +1,5 @@
+use cd_fan::{Client, SliceClient};
 use cd_feed::{Task, Tasks};
-use cd_fan::Client;
 use cd_phases::Lane;
 use std::mem::swap;
 
@@ -15,9 +15,13 @@ pub(crate) fn server_of(workers: &[Tasks]) -> usize {
     workers.len()
 }
 
+fn swap_with<T>(lane: &mut Lane<T>, clients: &mut Vec<Client>) {
+    swap(&mut lane.clients, clients);
+}
+
 /// Exchanges the clients with those of one lane, if it is there.
 pub(crate) fn swap_clients<T>(lanes: &mut [Lane<T>], server: usize, clients: &mut Vec<Client>) {
-    if server < lanes.len() {
-        swap(&mut lanes[server].clients, clients);
+    if let Some(lane) = lanes.get_mut(server) {
+        swap_with(lane, clients);
     }
 }
