@@ -1,47 +1,47 @@
-ghost use Rattle.std.specs.Prelude.{◌≡◌, ◌<◌, ◌≤◌, All};
+ghost use Rattle.std.specs.Prelude.{◌≡◌, ◌<◌, ◌≤◌, ◌+◌, ◌-◌, ℕ, length, slice_index_or};
+ghost use Rattle.cd_gate.specs.Gates.{IsSeatOf};
+ghost use Rattle.cd_gate.specs.Histories.{GrewByOthers};
 ghost use Rattle.cd_shared.specs.SharedTurns.{worker_of};
+ghost use Rattle.cd_threads.specs.Seats.{IsLaneAt, KnowsSame};
 
 use cd_cell::Hash32;
+use cd_fan::SliceClient;
 use cd_keeper::Keeper;
 use cd_phases::Lane;
-use cd_run::Outcome;
 use cd_shared::{AtDb, DbSeat, SharedDb};
 use std::sync::Wait;
 
-fn know<K: Keeper, H: Hash32>(seat: &DbSeat<K, H>)
-    ensures some { seat.now.lowest < seat.now.end }
-{
-}
-
-/// Puts the workers' seats together again, and their ends in a list. True where memory ran out in one of them.
+/// Puts the workers' seats together again, in the order of their numbers.
 pub(crate) fn join_lanes<'a, K: Keeper, H: Hash32, R: Wait + Sync>(
     db: &'a SharedDb<K, H>,
-    first: Lane<AtDb<'a, K, H, R>>,
+    first: DbSeat<K, H>,
     lanes: Vec<Lane<AtDb<'a, K, H, R>>>,
-    ends: &mut Vec<Vec<Outcome>>,
-) -> (DbSeat<K, H>, bool) {
-    let Lane {
-        worker: _,
-        seat,
-        outcomes,
-        clients: _,
-        memory,
-    } = first;
-    let mut whole = seat.into_seat();
-    let mut want = memory;
-    ends.push_reserved(outcomes);
+) -> DbSeat<K, H>
+    requires first { IsSeatOf db.now first × (first.lowest ≡ 0) }
+    requires beside { 0 < length lanes.items → first.end ≡ 1 }
+    requires each { (k : ℕ) (d : _) → k < length lanes.items → IsLaneAt (λ t. t.seat) (λ t. t.db.now) db.now (k + 1)
+        (length lanes.items + 1) (slice_index_or lanes.items k d) }
+    ensures of { IsSeatOf db.now result × (result.lowest ≡ 0) }
+    ensures first { KnowsSame H.digest_of K.held db.now.start 0 first.seen result.seen }
+    ensures knows { (k : ℕ) (d : _) → k < length lanes.items → KnowsSame H.digest_of K.held db.now.start (k + 1)
+        (slice_index_or lanes.items k d).seat.seat.seen result.seen }
+    ensures alone { length lanes.items ≡ 0 → result ≡ first }
+    ensures last { (d : _) (k : ℕ) → length lanes.items ≡ k + 1
+        → (result.end ≡ (slice_index_or lanes.items k d).seat.seat.end)
+        × GrewByOthers worker_of (k + 1) (slice_index_or lanes.items k d).seat.seat.end
+            (slice_index_or lanes.items k d).seat.seat.seen result.seen }
+{
+    let mut whole = first;
     let mut rest = lanes;
-    while !rest.is_empty() {
+    for _place in 0..rest.len() {
         let Lane {
             worker: _,
             seat,
-            outcomes,
+            outcomes: _,
             clients: _,
-            memory,
+            memory: _,
         } = rest.remove(0);
         db.join(&mut whole, seat.into_seat());
-        ends.push_reserved(outcomes);
-        want = want || memory;
     }
-    (whole, want)
+    whole
 }

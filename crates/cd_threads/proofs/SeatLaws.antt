@@ -1,0 +1,61 @@
+-- Seats among lanes.
+use Rattle.std.proofs.Common.{◌≡◌, ◌⊎◌, ⊎_elim, inl, inr, ℕ, ◌+◌, ◌<◌, ◌≤◌, List, [], ◌∷◌, ◌++◌, length, get_or, drop, refl, sym, ap, subst, ◌∙◌, arith, length-append}
+use Rattle.std.specs.Prelude.{All, Option}
+use Rattle.std.proofs.lemmas.Bool.{cases_lt}
+use Rattle.std.proofs.lemmas.List.{get_or_append_left, get_or_push}
+use Rattle.cd_base.specs.declared.hash.Hash256.{Hash256}
+use Rattle.cd_event.specs.declared.entry.Entry.{Entry}
+use Rattle.cd_gate.specs.Gates.{GateView, SeatView, IsSeatOf, below_part, upper_part, joined_seat}
+use Rattle.cd_gate.specs.Histories.{GrewByOthers}
+use Rattle.cd_core.specs.declared.start.CoreStart.{CoreStart}
+use Rattle.cd_keeper.specs.Contents.{Contents}
+use Rattle.cd_run.proofs.Lists.{All-map}
+use Rattle.cd_shared.specs.SharedTurns.{worker_of}
+use Rattle.cd_shared.proofs.AsSeen.{made-before, named-before}
+use Rattle.cd_threads.specs.Seats.{KnowsSame}
+
+pub each_push : {X : Type 0} (P : ℕ → X → Type 0) (xs : List X) (x : X) → ((k : ℕ) (d : X) → k < length xs → P k (get_or xs k d)) → P (length xs) x
+    → (k : ℕ) (d : X) → k < length (xs ++ x ∷ []) → P k (get_or (xs ++ x ∷ []) k d)
+each_push P xs x each here k d lt = ⊎_elim
+    (λ (low : k < length xs). subst (P k) (sym (get_or_append_left xs (x ∷ []) d k low)) (each k d low))
+    (λ (high : length xs ≤ k).
+      let same : length xs ≡ k = let l = length-append xs (x ∷ []) in omega arith in
+      subst (P k) (sym (get_or_push xs x d k same)) (subst (λ m. P m x) same here))
+    (cases_lt k (length xs))
+
+module _ {E D : Type 0} (gate : GateView D) (s : SeatView E D) (of : IsSeatOf gate s) (t : SeatView E D) where
+  pub of_upper : (at : ℕ) → t ≡ upper_part at s → IsSeatOf gate t
+  of_upper at is = subst (IsSeatOf gate) (sym is) (record { name = of.name; start = of.start; workers = of.workers })
+
+  pub of_below : (at : ℕ) → t ≡ below_part at s → IsSeatOf gate t
+  of_below at is = subst (IsSeatOf gate) (sym is) (record { name = of.name; start = of.start; workers = of.workers })
+
+  pub of_more : t ≡ record s { seen = t.seen } → IsSeatOf gate t
+  of_more is = subst (IsSeatOf gate) (sym is) (record { name = of.name; start = of.start; workers = of.workers })
+
+  pub of_joined : (o : SeatView E D) → t ≡ joined_seat s o → IsSeatOf gate t
+  of_joined o is = subst (IsSeatOf gate) (sym is) (record { name = of.name; start = of.start; workers = of.workers })
+
+-- ---- what a worker knows
+
+module _ {K X : Type 0} (digest : List ℕ → Hash256) (held : K → Option Contents) (start : CoreStart K) where
+  narrow : (lowest end n : ℕ) → lowest ≤ n → n < end → (xs ys : List (Entry X)) → GrewByOthers worker_of lowest end xs ys → GrewByOthers worker_of n (n + 1) xs ys
+  narrow lowest end n a b xs ys (added, is, out) = (
+    added,
+    is,
+    All-map (λ e. (worker_of e < lowest) ⊎ (end ≤ worker_of e)) (λ e. (worker_of e < n) ⊎ (n + 1 ≤ worker_of e)) added
+        (λ e o. ⊎_elim (λ (low : worker_of e < lowest). inl (omega arith)) (λ (high : end ≤ worker_of e). inr (omega arith)) o) out,
+  )
+
+  -- entries of others change nothing that a worker of the range knows
+  pub knows : (lowest end n : ℕ) → lowest ≤ n → n < end → (xs ys : List (Entry X)) → GrewByOthers worker_of lowest end xs ys → KnowsSame digest held start n xs ys
+  knows lowest end n a b xs ys grew = record {
+    made = made-before digest n (n + 1) (omega arith) xs ys (narrow lowest end n a b xs ys grew);
+    named = named-before digest n (n + 1) (omega arith) held start xs ys (narrow lowest end n a b xs ys grew);
+  }
+
+  pub knows_itself : (n : ℕ) (xs : List (Entry X)) → KnowsSame digest held start n xs xs
+  knows_itself n xs = record { made = refl; named = refl }
+
+  pub knows_then : (n : ℕ) (xs ys zs : List (Entry X)) → KnowsSame digest held start n xs ys → KnowsSame digest held start n ys zs → KnowsSame digest held start n xs zs
+  knows_then n xs ys zs a b = record { made = b.made ∙ a.made; named = b.named ∙ a.named }
