@@ -1,5 +1,5 @@
 -- Seats among lanes.
-use Rattle.std.proofs.Common.{◌≡◌, ◌⊎◌, ⊎_elim, inl, inr, ℕ, ◌+◌, ◌<◌, ◌≤◌, List, [], ◌∷◌, ◌++◌, length, get_or, drop, refl, sym, ap, subst, ◌∙◌, arith, length-append}
+use Rattle.std.proofs.Common.{◌≡◌, ◌⊎◌, ⊎_elim, inl, inr, ℕ, ◌+◌, ◌<◌, ◌≤◌, ◌==◌, Bool, true, false, if◌then◌else◌, ne_eqb, eq-eqb, List, [], ◌∷◌, ◌++◌, length, get_or, refl, sym, ap, subst, ◌∙◌, arith, length-append}
 use Rattle.std.specs.Prelude.{All, Option}
 use Rattle.std.proofs.lemmas.Bool.{cases_lt}
 use Rattle.std.proofs.lemmas.List.{get_or_append_left, get_or_push}
@@ -12,7 +12,7 @@ use Rattle.cd_keeper.specs.Contents.{Contents}
 use Rattle.cd_run.proofs.Lists.{All-map}
 use Rattle.cd_shared.specs.SharedTurns.{worker_of}
 use Rattle.cd_shared.proofs.AsSeen.{made-before, named-before}
-use Rattle.cd_threads.specs.Seats.{KnowsSame}
+use Rattle.cd_threads.specs.Seats.{KnowsSame, part_of}
 
 pub each_push : {X : Type 0} (P : ℕ → X → Type 0) (xs : List X) (x : X) → ((k : ℕ) (d : X) → k < length xs → P k (get_or xs k d)) → P (length xs) x
     → (k : ℕ) (d : X) → k < length (xs ++ x ∷ []) → P k (get_or (xs ++ x ∷ []) k d)
@@ -59,3 +59,21 @@ module _ {K X : Type 0} (digest : List ℕ → Hash256) (held : K → Option Con
 
   pub knows_then : (n : ℕ) (xs ys zs : List (Entry X)) → KnowsSame digest held start n xs ys → KnowsSame digest held start n ys zs → KnowsSame digest held start n xs zs
   knows_then n xs ys zs a b = record { made = b.made ∙ a.made; named = b.named ∙ a.named }
+
+-- ---- parts of a seat
+
+module _ {E D : Type 0} (s rest : SeatView E D) (k : ℕ) (is : rest ≡ upper_part k s) where
+  ending : ℕ → SeatView E D
+  ending e = record s { lowest = k; end = e }
+
+  -- a worker's part, and what is left above it
+  pub part_below : (workers next : ℕ) (t : SeatView E D) → t ≡ below_part next rest → k + 1 ≡ next → next < workers → t ≡ part_of workers k s
+  part_below workers next t cut step lt =
+      let no : (k + 1 == workers) ≡ false = ne_eqb (k + 1) workers (λ same. let g : ⊥ = omega (arith, step) in g) in
+      cut ∙ (ap (below_part next) is ∙ ap ending (sym step ∙ sym (ap (λ (b : Bool). if b then s.end else k + 1) no)))
+
+  pub part_last : (workers : ℕ) → k + 1 ≡ workers → rest ≡ part_of workers k s
+  part_last workers step = is ∙ ap ending (sym (ap (λ (b : Bool). if b then s.end else k + 1) (eq-eqb (k + 1) workers step)))
+
+  pub rest_above : (next : ℕ) (t : SeatView E D) → t ≡ upper_part next rest → t ≡ upper_part next s
+  rest_above next t cut = cut ∙ ap (upper_part next) is

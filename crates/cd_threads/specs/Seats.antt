@@ -19,8 +19,8 @@ module _ {E D : Type 0} where
     -- a worker's lane before a phase, over one shared value
     pub record IsLaneFor (seat : SeatView E D) (lane : Lane S V B) : Type 0 where
       pub place : lane.worker ≡ k
-      pub seat : seat_of lane.seat ≡ seat
-      pub gate : gate_of lane.seat ≡ gate
+      pub its_seat : seat_of lane.seat ≡ seat
+      pub its_gate : gate_of lane.seat ≡ gate
       pub no_ends : lane.outcomes.items ≡ []
       pub no_want : lane.memory ≡ false
 

@@ -6,7 +6,7 @@ use cd_cell::Hash32;
 use cd_fan::Client;
 use cd_feed::Tasks;
 use cd_keeper::Keeper;
-use cd_phases::run_phase;
+use cd_phases::{Lane, run_phase};
 use cd_run::{Holdup, Outcome};
 use cd_shared::{DbSeat, SharedDb};
 use std::alloc::Global;
@@ -36,7 +36,14 @@ pub(crate) fn do_phase<K: Keeper + Send, H: Hash32 + Send + Sync, P: Holdup, R: 
     swap_clients(lanes.as_mut_slice(), server, clients);
     run_phase(rt, alloc, phase, workers, lanes.as_mut_slice(), holdup);
     swap_clients(lanes.as_mut_slice(), server, clients);
-    let first = lanes.remove(0);
-    let (seat, want) = join_lanes(db, first, lanes, &mut ends);
-    (seat, if want { Err(Memory) } else { Ok(ends) })
+    let Lane {
+        worker: _,
+        seat,
+        outcomes,
+        clients: _,
+        memory,
+    } = lanes.remove(0);
+    ends.push_reserved(outcomes);
+    let (seat, want) = join_lanes(db, seat.into_seat(), lanes, &mut ends);
+    (seat, if memory || want { Err(Memory) } else { Ok(ends) })
 }

@@ -1,4 +1,4 @@
-use Rattle.std.proofs.Common.{◌≡◌, ◌≤◌, ◌<◌, ◌+◌, ℕ, drop, length, get_or}
+use Rattle.std.proofs.Common.{◌≡◌, ◌≤◌, ◌<◌, ◌+◌, ◌++◌, ℕ, false, map, take, drop, length, get_or, vec_len, vec_capacity}
 use Rattle.cd_gate.specs.Gates.{IsSeatOf}
 use Rattle.cd_gate.specs.Histories.{GrewByOthers}
 use Rattle.cd_shared.specs.SharedTurns.{worker_of}
@@ -16,4 +16,7 @@ invariant-loop-_place g l = record {
   alone : l._place ≡ 0 → l.whole ≡ l.fn.first;
   last : (d : _) (k : ℕ) → l._place ≡ k + 1 → (l.whole.end ≡ (get_or l.fn.lanes.items k d).seat.seat.end)
       × GrewByOthers worker_of (k + 1) (get_or l.fn.lanes.items k d).seat.seat.end (get_or l.fn.lanes.items k d).seat.seat.seen l.whole.seen;
+  ends : l.ends.items ≡ l.initial.ends.items ++ map (λ l. l.outcomes) (take l._place l.fn.lanes.items);
+  room : vec_len l.ends + length l.rest.items ≤ vec_capacity l.ends;
+  want : l.want ≡ false → (k : ℕ) (d : _) → k < l._place → (let lane = get_or l.fn.lanes.items k d in lane.memory) ≡ false;
 }
