@@ -1,8 +1,8 @@
 -- Seats among lanes.
-use Rattle.std.proofs.Common.{◌≡◌, ◌⊎◌, ⊎_elim, inl, inr, ℕ, ◌+◌, ◌<◌, ◌≤◌, ◌==◌, Bool, true, false, if◌then◌else◌, ne_eqb, eq-eqb, List, [], ◌∷◌, ◌++◌, length, get_or, refl, sym, ap, subst, ◌∙◌, arith, length-append}
+use Rattle.std.proofs.Common.{◌≡◌, ◌⊎◌, ⊎_elim, inl, inr, ℕ, ◌+◌, ◌<◌, ◌≤◌, ◌==◌, Bool, true, false, if◌then◌else◌, ne_eqb, eq-eqb, List, [], ◌∷◌, ◌++◌, length, get_or, drop, refl, sym, ap, subst, ◌∙◌, arith, length-append}
 use Rattle.std.specs.Prelude.{All, Option}
 use Rattle.std.proofs.lemmas.Bool.{cases_lt}
-use Rattle.std.proofs.lemmas.List.{get_or_append_left, get_or_push}
+use Rattle.std.proofs.lemmas.List.{get_or_append_left, get_or_push, get_or_default, get_or-drop, drop-drop}
 use Rattle.cd_base.specs.declared.hash.Hash256.{Hash256}
 use Rattle.cd_event.specs.declared.entry.Entry.{Entry}
 use Rattle.cd_gate.specs.Gates.{GateView, SeatView, IsSeatOf, below_part, upper_part, joined_seat}
@@ -77,3 +77,14 @@ module _ {E D : Type 0} (s rest : SeatView E D) (k : ℕ) (is : rest ≡ upper_p
 
   pub rest_above : (next : ℕ) (t : SeatView E D) → t ≡ upper_part next rest → t ≡ upper_part next s
   rest_above next t cut = cut ∙ ap (upper_part next) is
+
+-- ---- the next of some elements
+
+module _ {X : Type 0} (all rest : List X) (n : ℕ) (are : rest ≡ drop n all) where
+  pub next_at : (x : X) → n < length all → x ≡ get_or rest 0 x → (d : X) → get_or all n d ≡ x
+  next_at x lt is d =
+      let same : n ≡ n + 0 = omega arith in
+      get_or_default all n d x lt ∙ (ap (λ m. get_or all m x) same ∙ (sym (get_or-drop n all 0 x) ∙ (ap (λ l. get_or l 0 x) (sym are) ∙ sym is)))
+
+  pub rest_next : (new : List X) → new ≡ drop 1 rest → new ≡ drop (n + 1) all
+  rest_next new is = is ∙ (ap (drop 1) are ∙ drop-drop 1 n all)

@@ -29,6 +29,7 @@ module _ {E D : Type 0} where
       pub of : IsSeatOf gate (seat_of lane.seat)
       pub lowest : (let s = seat_of lane.seat in s.lowest) ≡ k
       pub end : k + 1 < count → (let s = seat_of lane.seat in s.end) ≡ k + 1
+      pub some : (let s = seat_of lane.seat in s.lowest < s.end)
 
 -- what a worker knows by the entries that its seat has seen, it knows by these
 module _ {K X : Type 0} (digest : List ℕ → Hash256) (held : K → Option Contents) (start : CoreStart K) where
