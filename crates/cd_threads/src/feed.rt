@@ -1,8 +1,15 @@
+ghost use Rattle.std.specs.Prelude.{◌≡◌, [], IfOk, OnErr};
+ghost use Rattle.cd_fan.specs.Fans.{HaveGotBytes};
+ghost use Rattle.cd_feed.specs.Feeds.{IsFeedFit};
+ghost use Rattle.cd_lanes.specs.Left.{LeftByOne, PhaseServed};
+ghost use Rattle.cd_run.specs.ReportText.{ends_of};
+ghost use Rattle.cd_threads.specs.Ran.{FeedDone, FeedStopped, pins_in};
+
 use crate::phase::do_phase;
 use cd_base::Memory;
 use cd_cell::Hash32;
 use cd_core::Core;
-use cd_fan::Client;
+use cd_fan::{Client, SliceClient};
 use cd_feed::{Feed, Phase};
 use cd_keeper::Keeper;
 use cd_run::{Holdup, Outcome};
@@ -50,7 +57,21 @@ pub fn run_feed<K: Keeper + Send, H: Hash32 + Send + Sync, P: Holdup, R: Threads
     feed: &Feed,
     clients: &mut Vec<Client>,
     holdup: &P,
-) -> (Core<K, H>, Result<Vec<Vec<Vec<Outcome>>>, Memory>) {
+) -> (Core<K, H>, Result<Vec<Vec<Vec<Outcome>>>, Memory>)
+    requires fit { IsFeedFit feed.now }
+    requires empty { core.journal ≡ [] }
+    requires fresh { HaveGotBytes (λ c. got c) 0 clients.old.items }
+    ensures done { IfOk result.1 (λ ends. FeedDone H.digest_of K.held K.faults
+        feed.now.phases (ends_of ends.items) core.entry result.0) }
+    ensures stopped { OnErr result.1 (FeedStopped H.digest_of K.held K.faults
+        feed.now.phases core.entry result.0) }
+    ensures clients { IfOk result.1 (λ ends. LeftByOne
+        (PhaseServed (λ c. got c) (λ c. steady c) H.digest_of (pins_in H.digest_of K.held result.0))
+        feed.now.phases (ends_of ends.items) clients.old.items clients.new.items) }
+    ensures clients_then { OnErr result.1 (LeftByOne
+        (PhaseServed (λ c. got c) (λ c. steady c) H.digest_of (pins_in H.digest_of K.held result.0))
+        feed.now.phases [] clients.old.items clients.new.items) }
+{
     let (db, seat) = match SharedDb::new(alloc, core, WORKERS) {
         Ok(made) => made,
         Err((core, error)) => return (core, Err(error)),
