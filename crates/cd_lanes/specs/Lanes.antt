@@ -1,16 +1,11 @@
 -- Trusted: what a worker does in a phase of a feed: its tasks, each with its entries and its end.
-use Rattle.std.specs.Prelude.{◌≡◌, ◌⊎◌, ℕ, ◌+◌, Bool, List, [], ◌∷◌, ◌++◌, count_by, slice_get, Option, Some, Result, Ok}
-use Rattle.cd_base.specs.declared.answers.Memory.{Memory}
+use Rattle.std.specs.Prelude.{◌≡◌, ℕ, ◌+◌, List, [], ◌∷◌, ◌++◌}
 use Rattle.cd_base.specs.declared.hash.Hash256.{Hash256}
-use Rattle.cd_block.specs.declared.block.BlockId.{BlockId}
 use Rattle.cd_event.specs.declared.entry.Entry.{Entry}
-use Rattle.cd_event.specs.Pins.{Named, find_pin}
+use Rattle.cd_event.specs.Pins.{Named}
 use Rattle.cd_event.specs.Turning.{RisesOnly}
 use Rattle.cd_feed.specs.declared.feed.Task.{Task}
-use Rattle.cd_feed.specs.declared.feed.Task.TheVariants.{Serve}
-use Rattle.cd_feed.specs.Feeds.{is_serve}
 use Rattle.cd_run.specs.declared.outcome.Outcome.{Outcome}
-use Rattle.cd_run.specs.Clients.{Sent}
 use Rattle.cd_run.specs.Covers.{name, WorkerBegun}
 use Rattle.cd_run.specs.Runs.{TaskRun, has_failed}
 
@@ -44,25 +39,3 @@ module _ {S H : Type 0} (digest : List ℕ → Hash256) (worker faults : S → �
   abbrev pub WorkerStopped : ℕ → ℕ → List Task → S → S → Type 0
   WorkerStopped phase number jobs old new =
       WentOn (λ es. WorkerBegun digest (named new) phase number 0 jobs es) old new
-
--- ---- clients; of all tasks of a feed one is a serve at most
-
-abbrev pub serves : List Task → ℕ
-serves jobs = count_by is_serve jobs
-
-module _ {C : Type 0} (got : C → Option (List ℕ)) (steady : C → Bool) (digest : List ℕ → Hash256) (pins : List Named) where
-  -- the serve of some tasks got a pin, and sent what is under it; its outcome, where there is one, is what it ended with
-  pub record IsServed (jobs : List Task) (ends : List Outcome) (old new : List C) : Type 0 where
-    pub place : ℕ
-    pub id : BlockId
-    pub max : ℕ
-    pub job : slice_get jobs place ≡ Some (Serve id max)
-    pub pin : Named
-    pub found : find_pin pins pin.number ≡ Some pin
-    pub result : Result Outcome Memory
-    pub ended : (end : Outcome) → slice_get ends place ≡ Some end → result ≡ Ok end
-    pub sent : Sent got steady digest pin.tree old new result
-
-  -- what some tasks leave of the clients: what they were, or what the serve left
-  abbrev pub LeavesAll : List Task → List Outcome → List C → List C → Type 0
-  LeavesAll jobs ends old new = (new ≡ old) ⊎ IsServed jobs ends old new

@@ -1,7 +1,8 @@
 ghost use Rattle.std.specs.Prelude.{◌≡◌, ◌≤◌, [], IfOk, IfErr, OnErr};
 ghost use Rattle.cd_fan.specs.Fans.{HaveGotBytes};
 ghost use Rattle.cd_feed.specs.Feeds.{IsWorkerFit};
-ghost use Rattle.cd_lanes.specs.Lanes.{serves, LeavesAll, WorkerDone, WorkerStopped};
+ghost use Rattle.cd_lanes.specs.Lanes.{WorkerDone, WorkerStopped};
+ghost use Rattle.cd_lanes.specs.Left.{serves, LeavesAll};
 
 use cd_base::Memory;
 use cd_event::{Turns, Who};

@@ -6,7 +6,7 @@ use Rattle.std.proofs.lemmas.Option.{none-some, same_Some, slice_get_within}
 use Rattle.cd_base.specs.declared.hash.Hash256.{Hash256}
 use Rattle.cd_keeper.specs.Contents.{Contents}
 use Rattle.cd_event.specs.declared.entry.Entry.{Entry}
-use Rattle.cd_event.specs.Pins.{Named, find_pin}
+use Rattle.cd_event.specs.Pins.{Named}
 use Rattle.cd_event.specs.Turning.{RisesOnly}
 use Rattle.cd_core.specs.Cores.{CoreView}
 use Rattle.cd_feed.specs.declared.feed.Task.{Task}
@@ -18,10 +18,10 @@ use Rattle.cd_run.proofs.EarlyLaws.{tasks_of_begun}
 use Rattle.cd_run.proofs.Lists.{filter-all, filter-none, All-map}
 use Rattle.cd_run.proofs.StageLaws.{failed_both}
 use Rattle.cd_lanes.specs.Lanes.{TasksRun}
-use Rattle.cd_lanes.proofs.PinLaws.{found}
 use Rattle.cd_lanes.proofs.TaskLaws.{tasks_with_more, events_of_tasks, begun_of_tasks, none_begun}
 use Rattle.cd_lanes.proofs.WorkerLaws.{rises_both}
-use Rattle.cd_lanes.specs.Left.{WorkerServed}
+use Rattle.cd_lanes.specs.Left.{ServedBy, WorkerServed}
+use Rattle.cd_lanes.proofs.ClientLaws.{served_with_more}
 use Rattle.cd_lanes.specs.Phases.{PartRun}
 use Rattle.cd_lanes.proofs.LeftLaws.{get_before, get_last}
 use Rattle.cd_replay.specs.Ran.{Grew, pins_in, PhaseDone, PhaseStopped, WorkerDone, WorkerStopped}
@@ -207,13 +207,10 @@ pub grow_served : {K X C : Type 0} (got : C → Option (List ℕ)) (steady : C �
     → (w : ℕ) (jobs : List Task) (ends : List Outcome) (old now : List C) → WorkerServed got steady digest (pins_in digest held mid) w jobs ends old now → WorkerServed got steady digest (pins_in digest held new) w jobs ends old now
 grow_served got steady digest held mid new entries same journal w jobs ends old now s = record {
   place = s.place;
-  id = s.id;
-  max = s.max;
-  job = s.job;
-  pin = s.pin;
-  found = ap (λ l. find_pin l (let m = s.pin in m.number)) (pins_grow digest held w mid new entries same journal)
-      ∙ found (pins_in digest held mid w) (more_pins digest held w mid new entries same journal) (let m = s.pin in m.number) s.pin s.found;
-  result = s.result;
+  part = s.part;
+  at = s.at;
+  end = s.end;
   ended = s.ended;
-  sent = s.sent;
+  is = subst (λ l. ServedBy got steady digest l s.place s.part s.end old now) (sym (pins_grow digest held w mid new entries same journal))
+      (served_with_more got steady digest (pins_in digest held mid w) (more_pins digest held w mid new entries same journal) s.place s.part s.end old now s.is);
 }

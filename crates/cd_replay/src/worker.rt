@@ -1,7 +1,7 @@
 ghost use Rattle.std.specs.Prelude.{◌≡◌, ◌≤◌, [], IfOk, OnErr};
 ghost use Rattle.cd_fan.specs.Fans.{HaveGotBytes};
 ghost use Rattle.cd_feed.specs.Feeds.{IsWorkerFit};
-ghost use Rattle.cd_lanes.specs.Lanes.{serves, LeavesAll};
+ghost use Rattle.cd_lanes.specs.Left.{serves, LeavesAll};
 ghost use Rattle.cd_replay.specs.Ran.{WorkerDone, WorkerStopped, pins_in};
 
 use cd_base::Memory;

@@ -1,5 +1,6 @@
 use Rattle.std.proofs.Common.{◌≡◌, take}
-use Rattle.cd_lanes.specs.Lanes.{serves, LeavesAll, WorkerDone}
+use Rattle.cd_lanes.specs.Lanes.{WorkerDone}
+use Rattle.cd_lanes.specs.Left.{serves, LeavesAll}
 use Rattle.cd_lanes.proofs.tasks.do_tasks.Given as goal
 
 abbrev pub invariant-loop-place : goal.invariant-loop-place

@@ -1,8 +1,7 @@
 use Rattle.std.proofs.Common.{◌≡◌, ◌∷◌, [], ◌++◌, ◌+◌, ◌≤◌, take, map, List, inl, Bool, true, is_ok, not, if◌then◌else◌, refl, ap, subst, sym, ◌∙◌}
 use Rattle.std.proofs.lemmas.List.{map-append, take_all}
 use Rattle.cd_feed.specs.declared.feed.Task.{Task}
-use Rattle.cd_lanes.specs.Lanes.{serves, LeavesAll}
-use Rattle.cd_lanes.specs.Left.{LeftByOne, WorkerServed, serves_of}
+use Rattle.cd_lanes.specs.Left.{serves, LeavesAll, LeftByOne, WorkerServed, serves_of}
 use Rattle.cd_replay.specs.Ran.{PhaseDone, WorkerDone, WorkerStopped, pins_in}
 use Rattle.cd_lanes.proofs.LeftLaws.{one_at, fresh_at, untouched_next, untouched_end, left_next, left_end, its_place, one_more_end, no_end}
 use Rattle.cd_replay.proofs.PhaseLaws.{no_worker, next_worker, stopped_worker, worker_unplaced, grow_served}
