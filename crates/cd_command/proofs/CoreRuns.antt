@@ -64,6 +64,7 @@ module _ (H : List ℕ → Hash256) {K X : Type 0} (k : KeeperGhosts K) (old : K
       led-on = record {
         follow = since.follow;
         batches = since.is_batches;
+        counted = since.is_faults;
         silent = since.silent;
         told = told-on (k.held start.keeper.value)
             (subst (λ l. IfSome (option_map (λ contents. told_in contents start.world.value) (k.held start.keeper.value)) (λ t. IsHeld k.held H k.trail l t journal start.keeper.value now))

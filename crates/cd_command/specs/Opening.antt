@@ -1,5 +1,5 @@
 -- Trusted: a command over a store: how its opening ends, and what the command's entries make of the opened store.
-use Rattle.std.specs.Prelude.{◌≡◌, ◌⊎◌, ℕ, List, [], None, IfSome}
+use Rattle.std.specs.Prelude.{◌≡◌, ◌⊎◌, ℕ, ◌+◌, ◌-◌, ◌^◌, ◌≤◌, min, List, [], None, IfSome}
 use Rattle.cd_base.specs.declared.hash.Hash256.{Hash256}
 use Rattle.cd_record.specs.declared.limits.TheConstants.{GREATEST_COUNT}
 use Rattle.cd_keeper.specs.declared.keeper.Keeper.{Ghosts as KeeperGhosts}
@@ -9,7 +9,7 @@ use Rattle.cd_world.specs.Changes.{settling, settled}
 use Rattle.cd_world.specs.Following.{AllFollow}
 use Rattle.cd_world.specs.Unfolded.{told_in}
 use Rattle.cd_count.specs.SoundContents.{AreSoundContents}
-use Rattle.cd_core.specs.Cores.{IsHeld, batched}
+use Rattle.cd_core.specs.Cores.{IsHeld, batched, failures}
 use Rattle.cd_restart.specs.declared.open_fault.OpenFault.{OpenFault}
 use Rattle.cd_restart.specs.declared.open_fault.OpenFault.TheVariants as opening
 use Rattle.cd_restart.specs.Opened.{world_of}
@@ -44,12 +44,14 @@ module _ (H : List ℕ → Hash256) {K : Type 0} (k : KeeperGhosts K) where
     pub holds : IfSome (k.held mid) (λ contents. AreSoundContents H (told_in contents world) contents)
 
   module _ {X : Type 0} where
-    -- Each entry follows the world so far, from this one on, and the keeper made a batch for each that makes one. Where it
-    -- told what it held, it holds the contents of the world to which the entries lead, which is sound, and its trail has one
+    -- Each entry follows the world so far, from this one on, and the keeper made a batch for each that makes one. Its count
+    -- of faults rose by at least the number of entries that say that it failed, or stands at the last u64. Where it told
+    -- what it held, it holds the contents of the world to which the entries lead, which is sound, and its trail has one
     -- content more for each batch, that of the world after it.
     pub record LeadOn (world : World) (journal : List (Entry X)) (mid new : K) : Type 0 where
       pub follow : AllFollow H world journal
       pub batches : k.batches new ≡ batched journal (k.batches mid)
+      pub counted : min (k.faults mid + failures journal) (2 ^ 64 - 1) ≤ k.faults new
       pub silent : k.held mid ≡ None → k.held new ≡ None
       pub told : IfSome (k.held mid) (λ contents. IsHeld k.held H k.trail GREATEST_COUNT (told_in contents world) journal mid new)
 

@@ -9,8 +9,8 @@ use Rattle.cd_feed.specs.declared.feed.Phase.{Phase}
 use Rattle.cd_feed.specs.declared.feed.Task.{Task}
 use Rattle.cd_run.specs.declared.outcome.Outcome.{Outcome}
 use Rattle.cd_run.specs.ReportText.{ends_of, IsBeside, AreBeside}
-use Rattle.cd_lanes.specs.Lanes.{TasksRun}
 use Rattle.cd_lanes.specs.Phases.{PartRun, PhasesRun}
+use Rattle.cd_lanes.proofs.ClientLaws.{ends_beside as tasks_end}
 use Rattle.cd_lanes.proofs.PhaseRuns.{ends_beside}
 
 -- an element of a list that was gone over
@@ -20,11 +20,6 @@ at-of-map f (x ∷ xs) zero d lt = refl
 at-of-map f (x ∷ xs) (suc k) d lt = at-of-map f xs k d (omega (arith, lt))
 
 module _ {X : Type 0} (digest : List ℕ → Hash256) where
-  tasks-beside : (pins : List Named) (phase worker n : ℕ) (jobs : List Task) (es : List (Entry X)) (ends : List Outcome) → TasksRun digest pins phase worker n jobs es ends → length ends ≡ length jobs
-  tasks-beside pins phase worker n [] es ends (is, are) = ap length are
-  tasks-beside pins phase worker n (job ∷ jobs) es ends (xs, ys, end, others, run, runs, is, are) =
-      ap length are ∙ ap suc (tasks-beside pins phase worker (n + 1) jobs ys others runs)
-
   workers-beside : {Z : Type 0} (pins : ℕ → List Named) (n : ℕ) (workers : List (List Task)) (part : List (Entry X)) (ends : List (Vec Outcome Z)) → PartRun digest pins n workers part (map (λ w. w.items) ends) → IsBeside workers ends
   workers-beside pins n workers part ends run =
       let long : length ends ≡ length workers = sym (length-map ends (λ w. w.items)) ∙ run.beside in
@@ -33,7 +28,7 @@ module _ {X : Type 0} (digest : List ℕ → Hash256) where
         each = λ k d lt.
             let found = run.each k (slice_index_or workers k []) (slice_get-get_or workers k [] lt) in
             let its = same_Some found.0 (let w = slice_index_or ends k d in w.items) (sym found.1 ∙ at-of-map (λ w. w.items) ends k d (omega (arith, lt, long))) in
-            (let w = slice_index_or ends k d in w.ok.0) ∙ ap length (sym its) ∙ tasks-beside (pins k) n k 0 (slice_index_or workers k []) _ found.0 found.2;
+            (let w = slice_index_or ends k d in w.ok.0) ∙ ap length (sym its) ∙ tasks_end digest (pins k) n k 0 (slice_index_or workers k []) _ found.0 found.2;
       }
 
   each-beside : {Y Z : Type 0} (pins : ℕ → List Named) (n : ℕ) (phases : List Phase) (es : List (Entry X)) (ends : List (Vec (Vec Outcome Z) Y)) → PhasesRun digest pins n phases es (ends_of ends)

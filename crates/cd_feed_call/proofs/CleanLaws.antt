@@ -45,8 +45,8 @@ if-told None on told = tt
 if-told (Some contents) on told = on contents told
 
 module _ (H : List ℕ → Hash256) {K X C O : Type 0} (k : KeeperGhosts K) (got : C → Option (List ℕ)) (steady : C → Bool)
-    (start : CoreStart K) (journal : List (Entry X)) (feed : Feed) (clients left : List C) (o : SinkGhosts O) (out out_after : O) (before now : ℕ) where
-  clean-done : (end : Status) → FeedEnds H k.held got steady start journal feed clients left o out out_after before now end → is_clean end ≡ true
+    (start : CoreStart K) (journal : List (Entry X)) (feed : Feed) (clients left : List C) (o : SinkGhosts O) (out out_after : O) (Stands : ℕ → ℕ → Type 0) (before now : ℕ) where
+  clean-done : (end : Status) → FeedEnds H k.held got steady start journal feed clients left o out out_after Stands before now end → is_clean end ≡ true
       → ((ends : List (List (List Outcome))) × AreDone H k.held got steady start journal feed clients left ends) × (has_failed journal ≡ false)
   clean-done status.Ok done clean = let reported = done.0 in ((reported.ends, reported.done), done.1)
   clean-done status.WriteFault done clean = let reported = done.0 in ((reported.ends, reported.done), done.1)
@@ -60,7 +60,7 @@ module _ (H : List ℕ → Hash256) {K X C O : Type 0} (k : KeeperGhosts K) (got
   clean-done (status.Refused why) done clean = absurd done
 
   pub free-of : (keeper new : K) (end : Status) → IsOpening H k start.world.value keeper start.keeper.value → LeadOn H k start.world.value journal start.keeper.value new → IsTidy start.world.value
-      → FeedEnds H k.held got steady start journal feed clients left o out out_after before now end
+      → FeedEnds H k.held got steady start journal feed clients left o out out_after Stands before now end
       → IfSome (k.held keeper) (λ contents. is_clean end ≡ true → IsFree (replay start.world.value journal))
   free-of keeper new end opened on tidy done = if-told (k.held keeper) (λ contents told clean.
       let all = clean-done end done clean in

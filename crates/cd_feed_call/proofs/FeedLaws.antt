@@ -28,13 +28,21 @@ use Rattle.cd_lanes.proofs.PhaseRuns.{cut_of_phases}
 use Rattle.cd_command.specs.declared.status.Status.{Status}
 use Rattle.cd_command.specs.declared.status.Status.TheVariants as status
 use Rattle.cd_command.specs.Printing.{NoFault, PrintingEnds, HasGot, HasFailed}
-use Rattle.cd_feed_call.specs.Telling.{IsUntotalled, status_by}
-use Rattle.cd_feed_call.specs.Told.{AreDone, AreBegun, IsReported, IsWritten, FeedEnds}
+use Rattle.cd_feed_call.specs.Telling.{IsTold, IsUntotalled, status_by}
+use Rattle.cd_feed_call.specs.Told.{Counts, AreDone, AreBegun, IsReported, IsWritten, FeedEnds}
 
 -- an entry was failed where any was
 pub failed-any : {X : Type 0} (journal : List (Entry X)) → list_any (λ e. is_keeper (Some e.reply)) journal ≡ has_failed journal
 failed-any [] = refl
 failed-any (e ∷ journal) = ap (λ b. is_keeper (Some e.reply) || b) (failed-any journal)
+
+-- what is so of one thread
+counts-of : (failed : Bool) (before now : ℕ) → RisesOnly failed before now → Counts NoFault failed before now
+counts-of failed before now caused = record {
+  later = let later = caused.later in omega (arith, later);
+  steady = caused.steady;
+  rose = caused.rose;
+}
 
 module _ (H : List ℕ → Hash256) {K X C : Type 0} (held : K → Option Contents) (faults : K → ℕ) (got : C → Option (List ℕ)) (steady : C → Bool)
     (feed : Feed) (clients left : List C) (old mid : CoreView K X) (none : old.journal ≡ []) where
@@ -48,8 +56,8 @@ module _ (H : List ℕ → Hash256) {K X C : Type 0} (held : K → Option Conten
       let runs = subst (λ es. PhasesRun H (pins_in H held mid) 0 feed.phases es ends) (sym (all-new did.entries did.journal)) did.are in
       record { runs = runs; covers = covers-cut H (pins_in H held mid) feed mid.journal (cut_of_phases H (pins_in H held mid) 0 feed.phases mid.journal ends runs); served = served }
 
-  pub done-caused : (ends : List (List (List Outcome))) → FeedDone H held faults feed.phases ends old mid → RisesOnly (has_failed mid.journal) (faults old.keeper) (faults mid.keeper)
-  done-caused ends did = subst (λ es. RisesOnly (has_failed es) (faults old.keeper) (faults mid.keeper)) (sym (all-new did.entries did.journal)) did.caused
+  pub done-caused : (ends : List (List (List Outcome))) → FeedDone H held faults feed.phases ends old mid → Counts NoFault (has_failed mid.journal) (faults old.keeper) (faults mid.keeper)
+  done-caused ends did = counts-of (has_failed mid.journal) (faults old.keeper) (faults mid.keeper) (subst (λ es. RisesOnly (has_failed es) (faults old.keeper) (faults mid.keeper)) (sym (all-new did.entries did.journal)) did.caused)
 
   pub begun-of : FeedStopped H held faults feed.phases old mid → LeftByOne (All AreUnserved) (PhaseServed got steady H (pins_in H held mid)) feed.phases [] clients left
       → AreBegun H held got steady mid.start mid.journal feed clients left
@@ -58,18 +66,21 @@ module _ (H : List ℕ → Hash256) {K X C : Type 0} (held : K → Option Conten
     served = served;
   }
 
-  pub begun-caused : FeedStopped H held faults feed.phases old mid → RisesOnly (has_failed mid.journal) (faults old.keeper) (faults mid.keeper)
-  begun-caused did = subst (λ es. RisesOnly (has_failed es) (faults old.keeper) (faults mid.keeper)) (sym (all-new did.entries did.journal)) did.caused
+  pub begun-caused : FeedStopped H held faults feed.phases old mid → Counts NoFault (has_failed mid.journal) (faults old.keeper) (faults mid.keeper)
+  begun-caused did = counts-of (has_failed mid.journal) (faults old.keeper) (faults mid.keeper) (subst (λ es. RisesOnly (has_failed es) (faults old.keeper) (faults mid.keeper)) (sym (all-new did.entries did.journal)) did.caused)
 
 module _ (H : List ℕ → Hash256) {K X C O : Type 0} (held : K → Option Contents) (got : C → Option (List ℕ)) (steady : C → Bool)
     (start : CoreStart K) (journal : List (Entry X)) (feed : Feed) (clients left : List C) (o : SinkGhosts O) (out out_after : O)
     (ends : List (List (List Outcome))) (done : AreDone H held got steady start journal feed clients left ends)
-    (before mid now : ℕ) (caused : RisesOnly (has_failed journal) before mid) where
+    (Stands : ℕ → ℕ → Type 0) (before mid now : ℕ) (caused : Counts Stands (has_failed journal) before mid) where
   -- there is no text
   pub untold-ends : (end : Status) → IsUntotalled mid now end → out_after ≡ out
-      → FeedEnds H held got steady start journal feed clients left o out out_after before now end
-  untold-ends status.KeeperFault rose same = (let later = caused.later in omega (arith, rose, later), inr (record { ends = ends; done = done; sink = same }))
-  untold-ends status.Memory stood same = (inr (record { ends = ends; done = done; sink = same }), subst (RisesOnly (has_failed journal) before) (sym stood) caused)
+      → FeedEnds H held got steady start journal feed clients left o out out_after Stands before now end
+  untold-ends status.KeeperFault rose same = (
+    let later = caused.later in omega (arith, rose, later),
+    inr (record { ends = ends; done = done; sink = same }, mid, caused, rose),
+  )
+  untold-ends status.Memory stood same = (inr (record { ends = ends; done = done; sink = same }), subst (Counts Stands (has_failed journal) before) (sym stood) caused)
   untold-ends status.Ok other same = absurd other
   untold-ends (status.Usage fault) other same = absurd other
   untold-ends (status.BadInput fault) other same = absurd other
@@ -99,14 +110,14 @@ module _ (H : List ℕ → Hash256) {K X C O : Type 0} (held : K → Option Cont
 
     pub told-ends : (failed all_left : Bool) → failed ≡ has_failed journal → all_left ≡ eqb (length left) (length clients)
         → (end : Status) → PrintingEnds o text out out_after end
-        → FeedEnds H held got steady start journal feed clients left o out out_after before now (status_by failed all_left end)
+        → FeedEnds H held got steady start journal feed clients left o out out_after Stands before now (status_by failed all_left end)
     told-ends true all_left fails same end told = (subst (λ n. Rose before n) (sym stood) (caused.rose (sym fails)), inl (written end told, sym fails))
     told-ends false false fails same end told =
-        (written end told, sym fails, eqb-false (length left) (length clients) (sym same), stood ∙ caused.steady (sym fails))
+        (written end told, sym fails, eqb-false (length left) (length clients) (sym same), subst (Stands before) (sym stood) (caused.steady (sym fails)))
     told-ends false true fails same status.Ok told =
-        (reported (HasGot o) told, sym fails, eqb-true (length left) (length clients) (sym same), stood ∙ caused.steady (sym fails))
+        (reported (HasGot o) told, sym fails, eqb-true (length left) (length clients) (sym same), subst (Stands before) (sym stood) (caused.steady (sym fails)))
     told-ends false true fails same status.WriteFault told =
-        (reported (HasFailed o) told, sym fails, eqb-true (length left) (length clients) (sym same), stood ∙ caused.steady (sym fails))
+        (reported (HasFailed o) told, sym fails, eqb-true (length left) (length clients) (sym same), subst (Stands before) (sym stood) (caused.steady (sym fails)))
     told-ends false true fails same (status.Usage fault) told = absurd told
     told-ends false true fails same (status.BadInput fault) told = absurd told
     told-ends false true fails same (status.Damaged fault) told = absurd told
@@ -115,3 +126,17 @@ module _ (H : List ℕ → Hash256) {K X C O : Type 0} (held : K → Option Cont
     told-ends false true fails same status.ClientFault told = absurd told
     told-ends false true fails same (status.Refused why) told = absurd told
     told-ends false true fails same status.Memory told = absurd told
+
+module _ (H : List ℕ → Hash256) {K X C O : Type 0} (held : K → Option Contents) (faults : K → ℕ) (got : C → Option (List ℕ)) (steady : C → Bool)
+    (feed : Feed) (clients left : List C) (o : SinkGhosts O) (out out_after : O) (ends : List (List (List Outcome))) (old new : CoreView K X)
+    (done : AreDone H held got steady old.start old.journal feed clients left ends)
+    (Stands : ℕ → ℕ → Type 0) (before : ℕ) (caused : Counts Stands (has_failed old.journal) before (faults old.keeper))
+    (all_left : Bool) (same : all_left ≡ eqb (length left) (length clients)) where
+  pub ends-of : (end : Status) → IsTold H held faults o feed ends all_left old new out out_after end
+      → FeedEnds H held got steady old.start old.journal feed clients left o out out_after Stands before (faults new.keeper) end
+  ends-of end (inl told) = subst (λ e. FeedEnds H held got steady old.start old.journal feed clients left o out out_after Stands before (faults new.keeper) e) (sym told.is)
+      (let made = told.made in
+      told-ends H held got steady old.start old.journal feed clients left o out out_after ends done Stands before (faults old.keeper) (faults new.keeper) caused
+          made.totals made.are told.text made.is made.steady (has_failed old.journal) all_left refl same told.written told.printed)
+  ends-of end (inr untold) =
+      untold-ends H held got steady old.start old.journal feed clients left o out out_after ends done Stands before (faults old.keeper) (faults new.keeper) caused end untold.0 untold.1

@@ -1,12 +1,11 @@
 -- Trusted: a feed whose tasks were done over a store, and what was told of them.
-use Rattle.std.specs.Prelude.{◌≡◌, ◌≢◌, ◌⊎◌, ℕ, Bool, true, false, List, [], length, All, Option}
+use Rattle.std.specs.Prelude.{◌≡◌, ◌≢◌, ◌⊎◌, ℕ, ◌-◌, ◌^◌, ◌≤◌, min, Bool, true, false, List, [], length, All, Option}
 use Rattle.cd_base.specs.declared.hash.Hash256.{Hash256}
 use Rattle.cd_base.specs.declared.sink.Sink.{Ghosts as SinkGhosts}
 use Rattle.cd_base.specs.Counts.{Rose}
 use Rattle.cd_keeper.specs.Contents.{Contents}
 use Rattle.cd_event.specs.declared.entry.Entry.{Entry}
 use Rattle.cd_event.specs.Pins.{Named}
-use Rattle.cd_event.specs.Turning.{RisesOnly}
 use Rattle.cd_world.specs.declared.world.Totals.{Totals}
 use Rattle.cd_core.specs.declared.start.CoreStart.{CoreStart}
 use Rattle.cd_core.specs.Effects.{AreTotals}
@@ -21,7 +20,18 @@ use Rattle.cd_lanes.specs.Left.{LeftByOne, PhaseServed}
 use Rattle.cd_lanes.specs.Phases.{PhasesRun}
 use Rattle.cd_command.specs.declared.status.Status.{Status}
 use Rattle.cd_command.specs.declared.status.Status.TheVariants as status
-use Rattle.cd_command.specs.Printing.{NoFault, HasGot, HasFailed}
+use Rattle.cd_command.specs.Printing.{HasGot, HasFailed}
+
+-- a count didn't fall, or stands at the last u64
+abbrev pub NotFallen : ℕ → ℕ → Type 0
+NotFallen before now = min before (2 ^ 64 - 1) ≤ now
+
+-- the keeper's count of faults over some entries: it stands so where no entry says that the keeper failed, and rose where
+-- one does
+pub record Counts (Stands : ℕ → ℕ → Type 0) (failed : Bool) (before now : ℕ) : Type 0 where
+  pub later : NotFallen before now
+  pub steady : failed ≡ false → Stands before now
+  pub rose : failed ≡ true → Rose before now
 
 -- a text was written whole, or in part where the sink failed
 abbrev pub IsWritten : {O : Type 0} → SinkGhosts O → List ℕ → O → O → Type 0
@@ -63,21 +73,24 @@ module _ (H : List ℕ → Hash256) {K X C : Type 0} (held : K → Option Conten
       pub done : AreDone ends
       pub sink : out_after ≡ out
 
-    -- how doing a feed over an opened store and telling of it ends, by the keeper's count of faults before and now
-    abbrev pub FeedEnds : ℕ → ℕ → Status → Type 0
+    -- how doing a feed over an opened store and telling of it ends, by the keeper's count of faults before and now, which
+    -- stands so where the keeper didn't fail
+    abbrev pub FeedEnds : (ℕ → ℕ → Type 0) → ℕ → ℕ → Status → Type 0
     -- done and told
-    FeedEnds before now status.Ok = IsReported (HasGot o)
-        × (has_failed journal ≡ false) × (length left ≡ length clients) × NoFault before now
+    FeedEnds Stands before now status.Ok = IsReported (HasGot o)
+        × (has_failed journal ≡ false) × (length left ≡ length clients) × Stands before now
     -- the sink failed: done, and a part of it told
-    FeedEnds before now status.WriteFault = IsReported (HasFailed o)
-        × (has_failed journal ≡ false) × (length left ≡ length clients) × NoFault before now
+    FeedEnds Stands before now status.WriteFault = IsReported (HasFailed o)
+        × (has_failed journal ≡ false) × (length left ≡ length clients) × Stands before now
     -- a client failed, and is gone: done and told
-    FeedEnds before now status.ClientFault = IsReported (IsWritten o)
-        × (has_failed journal ≡ false) × (length left ≢ length clients) × NoFault before now
+    FeedEnds Stands before now status.ClientFault = IsReported (IsWritten o)
+        × (has_failed journal ≡ false) × (length left ≢ length clients) × Stands before now
     -- the keeper failed an entry, and all was done and told; or it failed at the totals, and nothing was told
-    FeedEnds before now status.KeeperFault = Rose before now
-        × ((IsReported (IsWritten o) × (has_failed journal ≡ true)) ⊎ IsUntold)
+    FeedEnds Stands before now status.KeeperFault = Rose before now
+        × ((IsReported (IsWritten o) × (has_failed journal ≡ true))
+        ⊎ (IsUntold × (mid : ℕ) × Counts Stands (has_failed journal) before mid × Rose mid now))
     -- memory ran out, in a task or behind them all: nothing was told
-    FeedEnds before now status.Memory = (AreBegun × (out_after ≡ out) ⊎ IsUntold) × RisesOnly (has_failed journal) before now
+    FeedEnds Stands before now status.Memory = (AreBegun × (out_after ≡ out) ⊎ IsUntold)
+        × Counts Stands (has_failed journal) before now
     -- nothing else can go wrong
-    FeedEnds before now _ = ⊥
+    FeedEnds Stands before now _ = ⊥

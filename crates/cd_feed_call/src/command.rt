@@ -2,14 +2,15 @@
 ghost use Rattle.std.specs.Prelude.{◌≡◌, []};
 ghost use Rattle.cd_fan.specs.Fans.{HaveGotBytes};
 ghost use Rattle.cd_feed.specs.Feeds.{IsFeedFit};
+ghost use Rattle.cd_command.specs.Printing.{NoFault};
 ghost use Rattle.cd_feed_call.specs.Told.{FeedEnds};
 ghost use Rattle.cd_feed_call.specs.Replaying.{ReplayEnds};
 
 use crate::feed::take_feed;
-use crate::telling::{has_failed, status_of, text_of};
+use crate::telling::tell;
 use cd_base::{Memory, Sink, Source};
 use cd_cell::Hash32;
-use cd_command::{Finished, Status, open_store, print};
+use cd_command::{Finished, Status, open_store};
 use cd_core::Core;
 use cd_fan::{Client, SliceClient};
 use cd_feed::Feed;
@@ -17,8 +18,7 @@ use cd_keeper::Keeper;
 use cd_replay::do_feed;
 use std::alloc::Global;
 
-/// Does a feed over an opened core, and writes the report. The report is made first, so nothing is written where memory
-/// runs out or where the keeper fails at the totals.
+/// Does a feed over an opened core, and tells of it.
 fn work<O: Sink, K: Keeper, H: Hash32>(
     alloc: Global,
     core: &mut Core<K, H>,
@@ -31,7 +31,7 @@ fn work<O: Sink, K: Keeper, H: Hash32>(
     requires fresh { HaveGotBytes (λ c. got c) 0 clients.old.items }
     ensures start { core.new.start ≡ core.old.start }
     ensures ends { FeedEnds H.digest_of K.held (λ c. got c) (λ c. steady c) core.new.start core.new.journal feed.now
-        clients.old.items clients.new.items O.Sink out.old out.new
+        clients.old.items clients.new.items O.Sink out.old out.new NoFault
         (K.faults core.old.keeper) (K.faults core.new.keeper) result }
 {
     let handed = clients.len();
@@ -39,13 +39,7 @@ fn work<O: Sink, K: Keeper, H: Hash32>(
         Ok(ends) => ends,
         Err(Memory) => return Status::Memory,
     };
-    let failed = has_failed(core.journal());
-    let text = match text_of(alloc, core, feed, &ends) {
-        Ok(text) => text,
-        Err(status) => return status,
-    };
-    let written = print(out, text.as_bytes());
-    status_of(failed, clients.len() == handed, written)
+    tell(alloc, core, feed, &ends, clients.len() == handed, out)
 }
 
 /// The command `replay`: reads a feed to the end of the input, opens the store, does the tasks of the feed one after

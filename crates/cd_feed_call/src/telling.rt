@@ -5,11 +5,11 @@ ghost use Rattle.cd_feed.specs.Feeds.{IsFeedFit};
 ghost use Rattle.cd_event.specs.Turning.{is_keeper};
 ghost use Rattle.cd_run.specs.ReportText.{AreBeside, ends_of};
 ghost use Rattle.cd_keeper.specs.Keeping.{KeepsHeld};
-ghost use Rattle.cd_feed_call.specs.Telling.{IsTextOf, IsUntotalled, status_by};
+ghost use Rattle.cd_feed_call.specs.Telling.{IsTextOf, IsTold, IsUntotalled, status_by};
 
-use cd_base::Memory;
+use cd_base::{Memory, Sink};
 use cd_cell::Hash32;
-use cd_command::Status;
+use cd_command::{Status, print};
 use cd_core::Core;
 use cd_event::{Entry, Refusal, Reply, UnpinFault};
 use cd_feed::Feed;
@@ -25,7 +25,7 @@ fn is_failure(reply: &Reply) -> bool
 }
 
 /// Whether the keeper failed one of some entries.
-pub(crate) fn has_failed<H: Hash32>(journal: &[Entry<H>]) -> bool
+fn has_failed<H: Hash32>(journal: &[Entry<H>]) -> bool
     ensures { result ≡ list_any (λ entry. is_keeper (Some entry.reply)) journal.now }
 {
     journal.iter().any(|entry| is_failure(&entry.reply))
@@ -33,7 +33,7 @@ pub(crate) fn has_failed<H: Hash32>(journal: &[Entry<H>]) -> bool
 
 /// The text of the report: how each task ended, and the totals of the store at the end. It takes the totals, which reads
 /// every record once; else the status of a call without them.
-pub(crate) fn text_of<K: Keeper, H: Hash32>(
+fn text_of<K: Keeper, H: Hash32>(
     alloc: Global,
     core: &mut Core<K, H>,
     feed: &Feed,
@@ -60,7 +60,7 @@ pub(crate) fn text_of<K: Keeper, H: Hash32>(
 }
 
 /// The status of a call whose report was written so: a fault of the keeper comes first, and then that of a client.
-pub(crate) fn status_of(failed: bool, all_left: bool, written: Status) -> Status
+fn status_of(failed: bool, all_left: bool, written: Status) -> Status
     ensures { result ≡ status_by failed all_left written }
 {
     match (failed, all_left) {
@@ -68,4 +68,30 @@ pub(crate) fn status_of(failed: bool, all_left: bool, written: Status) -> Status
         (false, false) => Status::ClientFault,
         (false, true) => written,
     }
+}
+
+/// Tells how the tasks of a feed ended: writes the report. It is made first, so nothing is written where memory runs out or
+/// where the keeper fails at the totals.
+pub(crate) fn tell<O: Sink, K: Keeper, H: Hash32>(
+    alloc: Global,
+    core: &mut Core<K, H>,
+    feed: &Feed,
+    ends: &[Vec<Vec<Outcome>>],
+    all_left: bool,
+    out: &mut O,
+) -> Status
+    requires fit { IsFeedFit feed.now }
+    requires beside { AreBeside feed.now.phases ends.now }
+    ensures start { core.new.start ≡ core.old.start }
+    ensures journal { core.new.journal ≡ core.old.journal }
+    ensures told { IsTold H.digest_of K.held K.faults O.Sink feed.now (ends_of ends.now) all_left
+        core.old core.new out.old out.new result }
+{
+    let failed = has_failed(core.journal());
+    let text = match text_of(alloc, core, feed, ends) {
+        Ok(text) => text,
+        Err(status) => return status,
+    };
+    let written = print(out, text.as_bytes());
+    status_of(failed, all_left, written)
 }

@@ -1,6 +1,7 @@
 use Rattle.std.proofs.Common.{List, inl, inr, refl, sym, subst, subst₂}
 use Rattle.cd_event.specs.declared.entry.Entry.{Entry}
 use Rattle.cd_command.specs.Opening.{LeadOn}
+use Rattle.cd_command.specs.Printing.{NoFault}
 use Rattle.cd_command.proofs.CoreRuns.{led-on, opening-at, tidy-at}
 use Rattle.cd_feed_call.specs.Told.{FeedEnds}
 use Rattle.cd_feed_call.proofs.CleanLaws.{free-of}
@@ -25,9 +26,9 @@ returns g c =
     let keeper = sym c.close-keeper.ensures.keeper in
     let on = subst₂ (λ (j : List (Entry g.row.H.Denot)) (x : g.row.K.Denot). LeadOn g.H.Hash32.digest_of g.K.Keeper c.work-status.new.core.start.world.value j c.work-status.new.core.start.keeper.value x) journal keeper
     (led-on g.H.Hash32.digest_of g.K.Keeper c.args.keeper c.in-Ok-open_store.core c.in-Ok-open_store.ensures.opened c.in-Ok-open_store.ensures.kept c.work-status.new.core.start c.work-status.ensures.start c.work-status.new.core.journal c.work-status.new.core.keeper c.close-keeper.ensures.kept) in
-    let ends = subst₂ (λ (j : List (Entry g.row.H.Denot)) (x : g.row.K.Denot). FeedEnds g.H.Hash32.digest_of g.K.Keeper.held (λ b. (goal.SliceClient-dyn g (b.vtable, b.value)).got b.value) (λ b. (goal.SliceClient-dyn g (b.vtable, b.value)).steady b.value) c.work-status.new.core.start j c.in-Ok.feed c.args.clients.now.items c.work-status.new.clients.items g.O.Sink c.args.out.now c.work-status.new.out
+    let ends = subst₂ (λ (j : List (Entry g.row.H.Denot)) (x : g.row.K.Denot). FeedEnds g.H.Hash32.digest_of g.K.Keeper.held (λ b. (goal.SliceClient-dyn g (b.vtable, b.value)).got b.value) (λ b. (goal.SliceClient-dyn g (b.vtable, b.value)).steady b.value) c.work-status.new.core.start j c.in-Ok.feed c.args.clients.now.items c.work-status.new.clients.items g.O.Sink c.args.out.now c.work-status.new.out NoFault
     (g.K.Keeper.faults c.args.keeper) (g.K.Keeper.faults x) c.work-status.result) journal keeper
-    (subst (λ b. FeedEnds g.H.Hash32.digest_of g.K.Keeper.held (λ b. (goal.SliceClient-dyn g (b.vtable, b.value)).got b.value) (λ b. (goal.SliceClient-dyn g (b.vtable, b.value)).steady b.value) c.work-status.new.core.start c.work-status.new.core.journal c.in-Ok.feed c.args.clients.now.items c.work-status.new.clients.items g.O.Sink c.args.out.now c.work-status.new.out
+    (subst (λ b. FeedEnds g.H.Hash32.digest_of g.K.Keeper.held (λ b. (goal.SliceClient-dyn g (b.vtable, b.value)).got b.value) (λ b. (goal.SliceClient-dyn g (b.vtable, b.value)).steady b.value) c.work-status.new.core.start c.work-status.new.core.journal c.in-Ok.feed c.args.clients.now.items c.work-status.new.clients.items g.O.Sink c.args.out.now c.work-status.new.out NoFault
     b (g.K.Keeper.faults c.work-status.new.core.keeper) c.work-status.result) opened.steady c.work-status.ensures.ends) in
     inl (
       c.in-Ok.feed,
@@ -37,7 +38,7 @@ returns g c =
         opened = opening-at g.H.Hash32.digest_of g.K.Keeper c.args.keeper c.in-Ok-open_store.core c.in-Ok-open_store.ensures.opened c.in-Ok-open_store.ensures.kept c.work-status.new.core.start c.work-status.ensures.start;
         on = on;
         ends = ends;
-        free = free-of g.H.Hash32.digest_of g.K.Keeper (λ b. (goal.SliceClient-dyn g (b.vtable, b.value)).got b.value) (λ b. (goal.SliceClient-dyn g (b.vtable, b.value)).steady b.value) c.work-status.new.core.start c.close-keeper.result.1.items c.in-Ok.feed c.args.clients.now.items c.work-status.new.clients.items g.O.Sink c.args.out.now c.work-status.new.out
+        free = free-of g.H.Hash32.digest_of g.K.Keeper (λ b. (goal.SliceClient-dyn g (b.vtable, b.value)).got b.value) (λ b. (goal.SliceClient-dyn g (b.vtable, b.value)).steady b.value) c.work-status.new.core.start c.close-keeper.result.1.items c.in-Ok.feed c.args.clients.now.items c.work-status.new.clients.items g.O.Sink c.args.out.now c.work-status.new.out NoFault
             (g.K.Keeper.faults c.args.keeper) (g.K.Keeper.faults c.close-keeper.result.0) c.args.keeper c.close-keeper.result.0 c.work-status.result (opening-at g.H.Hash32.digest_of g.K.Keeper c.args.keeper c.in-Ok-open_store.core c.in-Ok-open_store.ensures.opened c.in-Ok-open_store.ensures.kept c.work-status.new.core.start c.work-status.ensures.start) on (tidy-at g.H.Hash32.digest_of g.K.Keeper c.args.keeper c.in-Ok-open_store.core c.in-Ok-open_store.ensures.opened c.in-Ok-open_store.ensures.kept c.work-status.new.core.start c.work-status.ensures.start) ends;
       }),
     )
