@@ -1,8 +1,9 @@
 -- A feed that was done over a core, and what was told of it, row by row of the table.
-use Rattle.std.proofs.Common.{◌≡◌, inl, inr, ℕ, Bool, true, false, ◌||◌, List, [], ◌∷◌, ◌++◌, length, All, Option, Some, refl, sym, ap, subst, ◌∙◌, arith}
+use Rattle.std.proofs.Common.{◌≡◌, inl, inr, ℕ, Bool, true, false, ◌||◌, cond, ◌+◌, ◌-◌, ◌^◌, ◌≤◌, List, [], ◌∷◌, ◌++◌, length, All, Option, Some, refl, sym, ap, subst, ◌∙◌, arith}
+use Rattle.std.specs.Prelude.{min}
 use Rattle.std.specs.List.{list_any}
 use Rattle.std.proofs.Math.Dec.{eqb}
-use Rattle.std.proofs.lemmas.Bool.{eqb-true, eqb-false}
+use Rattle.std.proofs.lemmas.Bool.{eqb-true, eqb-false, false≢true}
 use Rattle.cd_base.specs.declared.hash.Hash256.{Hash256}
 use Rattle.cd_base.specs.Counts.{Rose}
 use Rattle.cd_base.specs.declared.sink.Sink.{Ghosts as SinkGhosts}
@@ -11,7 +12,7 @@ use Rattle.cd_event.specs.declared.entry.Entry.{Entry}
 use Rattle.cd_event.specs.Turning.{is_keeper, RisesOnly}
 use Rattle.cd_world.specs.declared.world.Totals.{Totals}
 use Rattle.cd_core.specs.declared.start.CoreStart.{CoreStart}
-use Rattle.cd_core.specs.Cores.{CoreView}
+use Rattle.cd_core.specs.Cores.{CoreView, failures}
 use Rattle.cd_core.specs.Effects.{AreTotals}
 use Rattle.cd_feed.specs.declared.feed.Feed.{Feed}
 use Rattle.cd_run.specs.declared.outcome.Outcome.{Outcome}
@@ -29,7 +30,7 @@ use Rattle.cd_command.specs.declared.status.Status.{Status}
 use Rattle.cd_command.specs.declared.status.Status.TheVariants as status
 use Rattle.cd_command.specs.Printing.{NoFault, PrintingEnds, HasGot, HasFailed}
 use Rattle.cd_feed_call.specs.Telling.{IsTold, IsUntotalled, status_by}
-use Rattle.cd_feed_call.specs.Told.{Counts, AreDone, AreBegun, IsReported, IsWritten, FeedEnds}
+use Rattle.cd_feed_call.specs.Told.{Counts, NotFallen, AreDone, AreBegun, IsReported, IsWritten, FeedEnds}
 
 -- an entry was failed where any was
 pub failed-any : {X : Type 0} (journal : List (Entry X)) → list_any (λ e. is_keeper (Some e.reply)) journal ≡ has_failed journal
@@ -44,6 +45,42 @@ counts-of failed before now caused = record {
   rose = caused.rose;
 }
 
+failures-more : {X : Type 0} (e : Entry X) (journal : List (Entry X)) (b : Bool) → is_keeper (Some e.reply) ≡ b → (has_failed journal ≡ true → 1 ≤ failures journal)
+    → has_failed (e ∷ journal) ≡ true → 1 ≤ failures (e ∷ journal)
+failures-more e journal true is later fails = subst (λ b. 1 ≤ cond b 1 0 + failures journal) (sym is) (omega arith)
+failures-more e journal false is later fails =
+    let rest = later (subst (λ b. (b || has_failed journal) ≡ true) is fails) in
+    subst (λ b. 1 ≤ cond b 1 0 + failures journal) (sym is) (omega (arith, rest))
+
+-- an entry that says that the keeper failed is one of their number
+failures-some : {X : Type 0} (journal : List (Entry X)) → has_failed journal ≡ true → 1 ≤ failures journal
+failures-some [] fails = absurd (false≢true fails)
+failures-some (e ∷ journal) fails = failures-more e journal (is_keeper (Some e.reply)) refl (failures-some journal) fails
+
+-- what is so on threads
+pub counts-run : {X : Type 0} (journal : List (Entry X)) (before now : ℕ) → min (before + failures journal) (2 ^ 64 - 1) ≤ now → Counts NotFallen (has_failed journal) before now
+counts-run journal before now counted = record {
+  later = omega (arith, counted);
+  steady = λ fails. omega (arith, counted);
+  rose = λ fails. let some = failures-some journal fails in omega (arith, counted, some);
+}
+
+module _ (H : List ℕ → Hash256) {K X C : Type 0} (held : K → Option Contents) (got : C → Option (List ℕ)) (steady : C → Bool)
+    (feed : Feed) (clients left : List C) (mid : CoreView K X) where
+  pub done-by : (ends : List (List (List Outcome))) → PhasesRun H (pins_in H held mid) 0 feed.phases mid.journal ends
+      → LeftByOne (All AreUnserved) (PhaseServed got steady H (pins_in H held mid)) feed.phases ends clients left
+      → AreDone H held got steady mid.start mid.journal feed clients left ends
+  done-by ends runs served = record {
+    runs = runs;
+    covers = covers-cut H (pins_in H held mid) feed mid.journal (cut_of_phases H (pins_in H held mid) 0 feed.phases mid.journal ends runs);
+    served = served;
+  }
+
+  pub begun-by : CutEarly H (pins_in H held mid) 0 feed.phases mid.journal
+      → LeftByOne (All AreUnserved) (PhaseServed got steady H (pins_in H held mid)) feed.phases [] clients left
+      → AreBegun H held got steady mid.start mid.journal feed clients left
+  begun-by cut served = record { covers = covers_prefix-cut H (pins_in H held mid) feed mid.journal cut; served = served }
+
 module _ (H : List ℕ → Hash256) {K X C : Type 0} (held : K → Option Contents) (faults : K → ℕ) (got : C → Option (List ℕ)) (steady : C → Bool)
     (feed : Feed) (clients left : List C) (old mid : CoreView K X) (none : old.journal ≡ []) where
   module _ (entries : List (Entry X)) (journal : mid.journal ≡ old.journal ++ entries) where
@@ -52,19 +89,16 @@ module _ (H : List ℕ → Hash256) {K X C : Type 0} (held : K → Option Conten
 
   pub done-of : (ends : List (List (List Outcome))) → FeedDone H held faults feed.phases ends old mid → LeftByOne (All AreUnserved) (PhaseServed got steady H (pins_in H held mid)) feed.phases ends clients left
       → AreDone H held got steady mid.start mid.journal feed clients left ends
-  done-of ends did served =
-      let runs = subst (λ es. PhasesRun H (pins_in H held mid) 0 feed.phases es ends) (sym (all-new did.entries did.journal)) did.are in
-      record { runs = runs; covers = covers-cut H (pins_in H held mid) feed mid.journal (cut_of_phases H (pins_in H held mid) 0 feed.phases mid.journal ends runs); served = served }
+  done-of ends did served = done-by H held got steady feed clients left mid ends
+      (subst (λ es. PhasesRun H (pins_in H held mid) 0 feed.phases es ends) (sym (all-new did.entries did.journal)) did.are) served
 
   pub done-caused : (ends : List (List (List Outcome))) → FeedDone H held faults feed.phases ends old mid → Counts NoFault (has_failed mid.journal) (faults old.keeper) (faults mid.keeper)
   done-caused ends did = counts-of (has_failed mid.journal) (faults old.keeper) (faults mid.keeper) (subst (λ es. RisesOnly (has_failed es) (faults old.keeper) (faults mid.keeper)) (sym (all-new did.entries did.journal)) did.caused)
 
   pub begun-of : FeedStopped H held faults feed.phases old mid → LeftByOne (All AreUnserved) (PhaseServed got steady H (pins_in H held mid)) feed.phases [] clients left
       → AreBegun H held got steady mid.start mid.journal feed clients left
-  begun-of did served = record {
-    covers = covers_prefix-cut H (pins_in H held mid) feed mid.journal (subst (λ es. CutEarly H (pins_in H held mid) 0 feed.phases es) (sym (all-new did.entries did.journal)) did.are);
-    served = served;
-  }
+  begun-of did served = begun-by H held got steady feed clients left mid
+      (subst (λ es. CutEarly H (pins_in H held mid) 0 feed.phases es) (sym (all-new did.entries did.journal)) did.are) served
 
   pub begun-caused : FeedStopped H held faults feed.phases old mid → Counts NoFault (has_failed mid.journal) (faults old.keeper) (faults mid.keeper)
   begun-caused did = counts-of (has_failed mid.journal) (faults old.keeper) (faults mid.keeper) (subst (λ es. RisesOnly (has_failed es) (faults old.keeper) (faults mid.keeper)) (sym (all-new did.entries did.journal)) did.caused)

@@ -70,3 +70,7 @@ module _ (H : List ℕ → Hash256) {S O K X C : Type 0} (s : SourceGhosts S) (o
   -- how the command `replay` ends: where the keeper failed no entry, no fault of it was counted
   abbrev pub ReplayEnds : S → S → O → O → K → K → List C → List C → List (Entry X) → Status → Type 0
   ReplayEnds = FeedCallEnds H s o k got steady NoFault
+
+  -- how the command `run` ends
+  abbrev pub RunEnds : S → S → O → O → K → K → List C → List C → List (Entry X) → Status → Type 0
+  RunEnds = FeedCallEnds H s o k got steady NotFallen

@@ -1,5 +1,5 @@
 -- Which words are taken.
-use Rattle.std.proofs.Common.{◌≡◌, ℕ, ◌≤◌, List, Option, Some, None, Result, Ok, Err, refl, sym, subst, inl, inr, arith}
+use Rattle.std.proofs.Common.{◌≡◌, ℕ, ◌≤◌, List, Option, Some, None, Result, Ok, Err, refl, sym, ◌∙◌, subst, inl, inr, arith}
 use Rattle.std.specs.Prelude.{IfOk, IfErr, MatchResult}
 use Rattle.std.proofs.lemmas.Option.{none-some, same_Some}
 use Rattle.cd_slices.specs.declared.export.TheConstants.{MOST_SLICE}
@@ -13,7 +13,7 @@ use Rattle.cd_words.specs.declared.fault.WordFault.TheVariants as word
 use Rattle.cd_words.specs.Reading.{HasCommand, IsRefusal}
 use Rattle.cd_command.specs.declared.status.Status.{Status}
 use Rattle.cd_command.specs.declared.status.Status.TheVariants as status
-use Rattle.cd_top.specs.Call.{work_by, IsLineOf, EndsUntaken, status_by}
+use Rattle.cd_top.specs.Call.{work_by, IsForOnce, IsForRun, IsLineOf, EndsUntaken, status_by}
 use Rattle.cd_top.specs.declared.work.Work.{Work}
 use Rattle.cd_top.specs.declared.work.Work.TheVariants as work
 use Rattle.cd_top.specs.Within.{IsWithin}
@@ -24,10 +24,14 @@ module _ (words : List (List ℕ)) (c : Command) (has : HasCommand words c) wher
   found-line (Ok w) told = (c, has, told)
   found-line (Err end) told = tt
 
-  -- a command whose work isn't there yet is not taken
-  pub other-line : (r : Result Work Status) → MatchResult r (λ w. work_by c ≡ Some w) (λ end. (end ≡ status.Usage word.Usage) × (work_by c ≡ None)) → IfErr r (EndsUntaken words)
+  -- a command that is done on threads is not taken
+  pub other-line : (r : Result Work Status) → MatchResult r (λ w. work_by c ≡ Some w) (λ end. (end ≡ status.Usage word.Usage) × (work_by c ≡ None)) → IfErr r (EndsUntaken IsForRun words)
   other-line (Ok w) told = tt
-  other-line (Err end) told = subst (EndsUntaken words) (sym told.0) (inr (refl, c, has, told.1))
+  other-line (Err end) told = subst (EndsUntaken IsForRun words) (sym told.0) (inr (refl, c, has, told.1))
+
+  -- nor is one that is done on one thread by the other call
+  pub once-line : (w : Work) → work_by c ≡ Some w → EndsUntaken IsForOnce words (status.Usage word.Usage)
+  once-line w is = inr (refl, c, has, λ none. none-some w (sym none ∙ is))
 
 -- a piece of an export is as long as its words allow
 max-within : (text : Option Text) (max : ℕ) → MaxIs text max → (1 ≤ max) × (max ≤ MOST_SLICE)
@@ -50,7 +54,7 @@ line-within words c has (Ok w) told = work-within has.0 c w has.2 told
 line-within words c has (Err end) told = tt
 
 -- nor are words that are refused
-pub refused-line : (words : List (List ℕ)) (fault : WordFault) → IsRefusal words fault → EndsUntaken words (status_by fault)
-refused-line words word.Memory refused = tt
-refused-line words word.Usage refused = inl refused
-refused-line words (word.BadValue option) refused = inl refused
+pub refused-line : (IsOther : Command → Type 0) (words : List (List ℕ)) (fault : WordFault) → IsRefusal words fault → EndsUntaken IsOther words (status_by fault)
+refused-line IsOther words word.Memory refused = tt
+refused-line IsOther words word.Usage refused = inl refused
+refused-line IsOther words (word.BadValue option) refused = inl refused

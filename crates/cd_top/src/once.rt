@@ -23,7 +23,8 @@ use std::alloc::Global;
 /// after another, and writes how each ended. `check` reads the whole store and writes how much it holds. `migrate` rewrites
 /// old records. `export` sends the bag of a block's state to the clients; it and the serve of a `replay` take those out of
 /// the list that fail, and every other command leaves the clients alone. `gen` writes the text of the feed of a number, and
-/// asks nothing of the keeper. `run` is a usage fault, and nothing is asked of the objects.
+/// asks nothing of the keeper. `run`, which `celldb_run` does, is a usage fault, and
+/// nothing is asked of the objects.
 ///
 /// Want of memory alone is free; what each other status says stands in `Ends`.
 pub fn celldb_once<S: Source, O: Sink, K: Keeper, H: Hash32>(

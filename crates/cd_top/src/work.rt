@@ -1,6 +1,6 @@
-ghost use Rattle.std.specs.Prelude.{◌≡◌, MatchResult, Some, None, IfOk, IfErr, map, string_bytes};
+ghost use Rattle.std.specs.Prelude.{◌≡◌, MatchResult, Some, None, IfOk, IfErr, OnOk, map, string_bytes};
 ghost use Rattle.cd_top.specs.Call as spec;
-ghost use Rattle.cd_top.specs.Call.{EndsUntaken, IsLineOf, work_by};
+ghost use Rattle.cd_top.specs.Call.{EndsUntaken, IsForOnce, IsForRun, IsLineOf, IsRunLine, work_by};
 ghost use Rattle.cd_top.specs.Within.{IsWithin};
 
 use cd_block::BlockId;
@@ -9,7 +9,7 @@ use cd_words::{Command, read_words};
 use cd_zero::ZeroName;
 use std::alloc::Global;
 
-/// What a call is to do. Which keeper it is done over is the caller's matter.
+/// What a call on one thread is to do. Which keeper it is done over is the caller's matter.
 #[derive(Drop)]
 pub enum Work {
     /// The command `zero`, by what its words say of the block's name.
@@ -26,7 +26,7 @@ pub enum Work {
     Gen(u64),
 }
 
-/// What a command asks for, or the status of a call over a command whose work isn't there yet.
+/// What a command asks for, or the status of a call over a command that is done on threads.
 fn work_in(command: Command) -> Result<Work, Status>
     ensures { MatchResult result (λ work. work_by command ≡ Some work)
         (λ status. (status ≡ Status.Usage WordFault.Usage) × (work_by command ≡ None)) }
@@ -60,10 +60,24 @@ fn status_by(fault: WordFault) -> Status
 pub fn work_of(alloc: Global, words: &[String]) -> Result<Work, Status>
     ensures found { IfOk result (λ work. IsLineOf work (map string_bytes words.now)) }
     ensures within { IfOk result IsWithin }
-    ensures other { IfErr result (EndsUntaken (map string_bytes words.now)) }
+    ensures other { IfErr result (EndsUntaken IsForRun (map string_bytes words.now)) }
 {
     match read_words(alloc, words) {
         Ok(command) => work_in(command),
+        Err(fault) => Err(status_by(fault)),
+    }
+}
+
+/// Takes words of the command that is done on threads, or gives the status of a call over words that are not taken.
+pub fn take_run(alloc: Global, words: &[String]) -> Result<(), Status>
+    ensures found { OnOk result (IsRunLine (map string_bytes words.now)) }
+    ensures other { IfErr result (EndsUntaken IsForOnce (map string_bytes words.now)) }
+{
+    match read_words(alloc, words) {
+        Ok(command) => match work_in(command) {
+            Ok(_) => Err(Status::Usage(WordFault::Usage)),
+            Err(_) => Ok(()),
+        },
         Err(fault) => Err(status_by(fault)),
     }
 }

@@ -27,7 +27,7 @@ fn all_words<R: Env + AllocGlobal>(rt: &R) -> io::Result<Vec<String>> {
 }
 
 /// Makes a client over each of these files, and runs. A file that is there is emptied.
-fn run_to<S: Source, O: Sink, E: Sink, K: Keeper>(
+fn run_to<S: Source, O: Sink, E: Sink, K: Keeper + Send>(
     rt: &HostRuntime,
     words: &[String],
     to: &[String],
@@ -51,7 +51,7 @@ fn run_to<S: Source, O: Sink, E: Sink, K: Keeper>(
             return end(Status::Memory, err);
         }
     }
-    run::<_, _, _, _, Sha>(alloc, words, input, out, err, keeper, clients)
+    run::<_, _, _, _, Sha, _>(rt, alloc, words, input, out, err, keeper, clients)
 }
 
 fn main(rt: HostRuntime) -> ExitCode {

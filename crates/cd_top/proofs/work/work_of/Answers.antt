@@ -1,5 +1,5 @@
 use Rattle.std.proofs.Common.{map, string_bytes, sym, subst}
-use Rattle.cd_top.specs.Call.{EndsUntaken}
+use Rattle.cd_top.specs.Call.{EndsUntaken, IsForRun}
 use Rattle.cd_top.proofs.WordLaws.{found-line, line-within, other-line, refused-line}
 use Rattle.cd_top.proofs.work.work_of.Goals as goal
 
@@ -14,4 +14,4 @@ returns-in-Ok-clause-other c = other-line (map string_bytes c.args.words.now) c.
 
 pub returns-in-Err-clause-other : goal.returns-in-Err-clause-other
 returns-in-Err-clause-other c =
-    subst (EndsUntaken (map string_bytes c.args.words.now)) (sym c.status_by.ensures) (refused-line (map string_bytes c.args.words.now) c.in-Err.fault c.in-Err.ensures.refused)
+    subst (EndsUntaken IsForRun (map string_bytes c.args.words.now)) (sym c.status_by.ensures) (refused-line IsForRun (map string_bytes c.args.words.now) c.in-Err.fault c.in-Err.ensures.refused)
