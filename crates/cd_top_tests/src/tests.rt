@@ -4,7 +4,8 @@ use cd_event::{Entry, Event, Refusal, Reply};
 use cd_feed::FeedFault;
 use cd_keeper::{KeepFault, Keeper, MemoryKeeper, SteadyKeeper};
 use cd_restart::ScanFault;
-use cd_top::{Ended, InputFault, Status, TopRefusal, celldb_once};
+use cd_run::NoHoldup;
+use cd_top::{Ended, InputFault, Status, TopRefusal, WordFault, celldb_once, celldb_run};
 use std::alloc::Global;
 use std::test::Fail;
 
@@ -327,6 +328,49 @@ fn feeds_are_done_and_told(rt: HostRuntime) -> Result<(), Fail> {
     let found =
         matches!(status, Status::BadInput(InputFault::Feed(FeedFault::Cut { at })) if at == cut.len() as u64);
     assert!(rt; found && out.is_empty() && keeper.batches() == 1);
+    Ok(())
+}
+
+/// What a call on threads of one word over a steady keeper and this input answers.
+fn told_by_run(
+    rt: &HostRuntime,
+    word: &str,
+    input: &[u8],
+    keeper: SteadyKeeper,
+) -> Result<(Status, Vec<u8>, SteadyKeeper), Fail> {
+    let alloc = rt.alloc();
+    let mut words = Vec::new(alloc);
+    words.push(String::from_str(alloc, word)?)?;
+    let mut input = SteadySource::new(input.to_vec(alloc)?);
+    let mut out = SteadySink::new(alloc);
+    let clients = Vec::new(alloc);
+    let Ended {
+        status,
+        keeper,
+        journal: _,
+        clients: _,
+    } = celldb_run::<_, _, _, Sha, _, _>(
+        rt, alloc, &words, &mut input, &mut out, keeper, clients, &NoHoldup,
+    );
+    Ok((status, out.taken().to_vec(alloc)?, keeper))
+}
+
+#[test]
+fn feeds_are_run_on_threads_and_told(rt: HostRuntime) -> Result<(), Fail> {
+    let alloc = rt.alloc();
+    let (status, out, keeper) = told_by_run(&rt, "run", &NO_PHASE, SteadyKeeper::new(alloc))?;
+    assert!(rt; matches!(status, Status::Ok));
+    assert!(rt; out.as_slice() == NO_LINES.as_bytes() && keeper.batches() == 0);
+    let feed = one_zero(alloc)?;
+    let (status, out, keeper) = told_by_run(&rt, "run", &feed, keeper)?;
+    assert!(rt; matches!(status, Status::Ok));
+    assert!(rt; out.as_slice() == STORED_LINES.as_bytes() && keeper.batches() == 1);
+    // Each call leaves the other one's commands alone.
+    let (status, out, keeper) = told_by_run(&rt, "replay", &feed, keeper)?;
+    assert!(rt; matches!(status, Status::Usage(WordFault::Usage)));
+    assert!(rt; out.is_empty() && keeper.batches() == 1);
+    let (status, out, _) = told(alloc, "run", &feed, keeper)?;
+    assert!(rt; matches!(status, Status::Usage(WordFault::Usage)) && out.is_empty());
     Ok(())
 }
 
