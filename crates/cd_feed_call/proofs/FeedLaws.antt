@@ -171,6 +171,6 @@ module _ (H : List ℕ → Hash256) {K X C O : Type 0} (held : K → Option Cont
   ends-of end (inl told) = subst (λ e. FeedEnds H held got steady old.start old.journal feed clients left o out out_after Stands before (faults new.keeper) e) (sym told.is)
       (let made = told.made in
       told-ends H held got steady old.start old.journal feed clients left o out out_after ends done Stands before (faults old.keeper) (faults new.keeper) caused
-          made.totals made.are told.text made.is made.steady (has_failed old.journal) all_left refl same told.written told.printed)
+      made.totals made.are told.text made.is made.steady (has_failed old.journal) all_left refl same told.written told.printed)
   ends-of end (inr untold) =
       untold-ends H held got steady old.start old.journal feed clients left o out out_after ends done Stands before (faults old.keeper) (faults new.keeper) caused end untold.0 untold.1

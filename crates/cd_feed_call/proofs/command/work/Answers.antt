@@ -1,11 +1,9 @@
-use Rattle.std.proofs.Common.{List, inl, inr, refl, sym, subst, subst₂, ap, ◌∙◌}
+use Rattle.std.proofs.Common.{List, inl, refl, sym, subst, subst₂, ◌∙◌}
 use Rattle.std.proofs.Math.Dec.{eqb}
 use Rattle.cd_event.specs.declared.entry.Entry.{Entry}
 use Rattle.cd_core.specs.declared.start.CoreStart.{CoreStart}
 use Rattle.cd_run.specs.ReportText.{ends_of, AreBeside}
-use Rattle.cd_replay.specs.Ran.{FeedDone, pins_in}
-use Rattle.cd_lanes.specs.Lanes.{AreUnserved}
-use Rattle.cd_lanes.specs.Left.{LeftByOne, PhaseServed}
+use Rattle.cd_replay.specs.Ran.{pins_in}
 use Rattle.cd_command.specs.Printing.{NoFault}
 use Rattle.cd_feed_call.specs.Told.{FeedEnds}
 use Rattle.cd_feed_call.specs.Telling.{IsTold}
