@@ -1,9 +1,10 @@
 -- A feed that was done over a core, and what was told of it, row by row of the table.
 use Rattle.std.proofs.Common.{◌≡◌, inl, inr, ℕ, Bool, true, false, ◌||◌, cond, ◌+◌, ◌-◌, ◌^◌, ◌≤◌, List, [], ◌∷◌, ◌++◌, length, All, Option, Some, refl, sym, ap, subst, ◌∙◌, arith}
-use Rattle.std.specs.Prelude.{min}
+use Rattle.std.specs.Prelude.{min, Result, Ok, Err, IfOk, OnErr}
 use Rattle.std.specs.List.{list_any}
 use Rattle.std.proofs.Math.Dec.{eqb}
 use Rattle.std.proofs.lemmas.Bool.{eqb-true, eqb-false, false≢true}
+use Rattle.std.proofs.lemmas.List.Sums.{sum_by-cons}
 use Rattle.cd_base.specs.declared.hash.Hash256.{Hash256}
 use Rattle.cd_base.specs.Counts.{Rose}
 use Rattle.cd_base.specs.declared.sink.Sink.{Ghosts as SinkGhosts}
@@ -37,6 +38,13 @@ pub failed-any : {X : Type 0} (journal : List (Entry X)) → list_any (λ e. is_
 failed-any [] = refl
 failed-any (e ∷ journal) = ap (λ b. is_keeper (Some e.reply) || b) (failed-any journal)
 
+-- what is so where an answer is such
+pub ok-of : {T E : Type 0} (r : Result T E) (x : T) (P : T → Type 0) → r ≡ Ok x → IfOk r P → P x
+ok-of r x P is told = subst (λ r. IfOk r P) is told
+
+pub err-of : {T E : Type 0} (r : Result T E) (e : E) (P : Type 0) → r ≡ Err e → OnErr r P → P
+err-of r e P is told = subst (λ r. OnErr r P) is told
+
 -- what is so of one thread
 counts-of : (failed : Bool) (before now : ℕ) → RisesOnly failed before now → Counts NoFault failed before now
 counts-of failed before now caused = record {
@@ -47,10 +55,13 @@ counts-of failed before now caused = record {
 
 failures-more : {X : Type 0} (e : Entry X) (journal : List (Entry X)) (b : Bool) → is_keeper (Some e.reply) ≡ b → (has_failed journal ≡ true → 1 ≤ failures journal)
     → has_failed (e ∷ journal) ≡ true → 1 ≤ failures (e ∷ journal)
-failures-more e journal true is later fails = subst (λ b. 1 ≤ cond b 1 0 + failures journal) (sym is) (omega arith)
+failures-more e journal true is later fails =
+    let count = sum_by-cons (λ x. cond (is_keeper (Some x.reply)) 1 0) e journal ∙ ap (λ b. cond b 1 0 + failures journal) is in
+    omega (arith, count)
 failures-more e journal false is later fails =
     let rest = later (subst (λ b. (b || has_failed journal) ≡ true) is fails) in
-    subst (λ b. 1 ≤ cond b 1 0 + failures journal) (sym is) (omega (arith, rest))
+    let count = sum_by-cons (λ x. cond (is_keeper (Some x.reply)) 1 0) e journal ∙ ap (λ b. cond b 1 0 + failures journal) is in
+    omega (arith, count, rest)
 
 -- an entry that says that the keeper failed is one of their number
 failures-some : {X : Type 0} (journal : List (Entry X)) → has_failed journal ≡ true → 1 ≤ failures journal

@@ -16,7 +16,7 @@ use Rattle.cd_command.specs.Untouched.{AreSame}
 use Rattle.cd_command.specs.Opening.{IsOpening, IsUnopenedBy, LeadOn}
 use Rattle.cd_command.specs.Printing.{NoFault}
 use Rattle.cd_feed_call.specs.Feeding.{IsNoFeed, IsOfFeed}
-use Rattle.cd_feed_call.specs.Told.{FeedEnds}
+use Rattle.cd_feed_call.specs.Told.{FeedEnds, NotFallen}
 
 -- all was done, and the keeper failed no entry
 abbrev pub is_clean : Status → Bool
