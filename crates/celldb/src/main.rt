@@ -15,6 +15,8 @@ use cd_keeper_sql::SqlKeeper;
 use cd_top::Status;
 use std::process::ExitCode;
 use std::rt::Env;
+use std::sync::Wait;
+use std::thread::Threads;
 use std::{env, io};
 
 /// All words, the program's name among them.
@@ -26,9 +28,10 @@ fn all_words<R: Env + AllocGlobal>(rt: &R) -> io::Result<Vec<String>> {
     Ok(words)
 }
 
-/// Makes a client over each of these files, and runs. A file that is there is emptied.
-fn run_to<S: Source, O: Sink, E: Sink, K: Keeper + Send>(
+/// Makes a client over each of these files, and runs, on threads where the words ask for it. A file that is there is emptied.
+fn run_to<S: Source, O: Sink, E: Sink, K: Keeper + Send, R: Threads + Wait + Sync>(
     rt: &HostRuntime,
+    threads: &R,
     words: &[String],
     to: &[String],
     input: &mut S,
@@ -51,7 +54,7 @@ fn run_to<S: Source, O: Sink, E: Sink, K: Keeper + Send>(
             return end(Status::Memory, err);
         }
     }
-    run::<_, _, _, _, Sha, _>(rt, alloc, words, input, out, err, keeper, clients)
+    run::<_, _, _, _, Sha, _>(threads, alloc, words, input, out, err, keeper, clients)
 }
 
 fn main(rt: HostRuntime) -> ExitCode {
@@ -70,10 +73,13 @@ fn main(rt: HostRuntime) -> ExitCode {
     };
     match db {
         Some(path) => match SqlKeeper::open(&rt, path.as_str()) {
-            Ok(keeper) => run_to(&rt, behind, &to, &mut input, &mut out, &mut err, keeper),
+            Ok(keeper) => run_to(
+                &rt, &rt, behind, &to, &mut input, &mut out, &mut err, keeper,
+            ),
             Err(fault) => end(status_of_keeper(fault), &mut err),
         },
         None => run_to(
+            &rt,
             &rt,
             behind,
             &to,
