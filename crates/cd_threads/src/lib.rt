@@ -1,0 +1,10 @@
+//! A feed's tasks, done on threads over a core that they share: phase after phase, and in each its workers side by side.
+#![tactic(auto)]
+
+mod feed;
+mod joining;
+mod phase;
+mod serving;
+mod splitting;
+
+pub use feed::run_feed;
