@@ -1,8 +1,8 @@
 -- Seats among lanes.
-use Rattle.std.proofs.Common.{◌≡◌, ◌⊎◌, ⊎_elim, inl, inr, ℕ, ◌+◌, ◌<◌, ◌≤◌, ◌==◌, Bool, true, false, if◌then◌else◌, ne_eqb, eq-eqb, List, [], ◌∷◌, ◌++◌, length, get_or, drop, refl, sym, ap, subst, ◌∙◌, arith, length-append}
+use Rattle.std.proofs.Common.{◌≡◌, ◌⊎◌, ⊎_elim, inl, inr, ℕ, ◌+◌, ◌<◌, ◌≤◌, ◌==◌, Bool, true, false, if◌then◌else◌, ne_eqb, eq-eqb, List, [], ◌∷◌, ◌++◌, length, map, get_or, take, drop, refl, sym, ap, subst, ◌∙◌, arith, length-append, append_assoc}
 use Rattle.std.specs.Prelude.{All, Option}
 use Rattle.std.proofs.lemmas.Bool.{cases_lt}
-use Rattle.std.proofs.lemmas.List.{get_or_append_left, get_or_push, get_or_default, get_or-drop, drop-drop}
+use Rattle.std.proofs.lemmas.List.{get_or_append_left, get_or_push, get_or_default, get_or-drop, drop-drop, take_more, map-append}
 use Rattle.cd_base.specs.declared.hash.Hash256.{Hash256}
 use Rattle.cd_event.specs.declared.entry.Entry.{Entry}
 use Rattle.cd_gate.specs.Gates.{GateView, SeatView, IsSeatOf, below_part, upper_part, joined_seat}
@@ -19,8 +19,8 @@ pub each_push : {X : Type 0} (P : ℕ → X → Type 0) (xs : List X) (x : X) �
 each_push P xs x each here k d lt = ⊎_elim
     (λ (low : k < length xs). subst (P k) (sym (get_or_append_left xs (x ∷ []) d k low)) (each k d low))
     (λ (high : length xs ≤ k).
-      let same : length xs ≡ k = let l = length-append xs (x ∷ []) in omega arith in
-      subst (P k) (sym (get_or_push xs x d k same)) (subst (λ m. P m x) same here))
+    let same : length xs ≡ k = let l = length-append xs (x ∷ []) in omega arith in
+    subst (P k) (sym (get_or_push xs x d k same)) (subst (λ m. P m x) same here))
     (cases_lt k (length xs))
 
 module _ {E D : Type 0} (gate : GateView D) (s : SeatView E D) (of : IsSeatOf gate s) (t : SeatView E D) where
@@ -88,3 +88,49 @@ module _ {X : Type 0} (all rest : List X) (n : ℕ) (are : rest ≡ drop n all) 
 
   pub rest_next : (new : List X) → new ≡ drop 1 rest → new ≡ drop (n + 1) all
   rest_next new is = is ∙ (ap (drop 1) are ∙ drop-drop 1 n all)
+
+  -- what holds of the ones before it, and of it, holds of all up to it
+  pub each_next : (P : ℕ → X → Type 0) (x : X) → ((d : X) → get_or all n d ≡ x) → ((k : ℕ) (d : X) → k < n → P k (get_or all k d)) → P n x
+      → (k : ℕ) (d : X) → k < n + 1 → P k (get_or all k d)
+  each_next P x next each here k d lt = ⊎_elim
+      (λ (low : k < n). each k d low)
+      (λ (high : n ≤ k).
+      let same : n ≡ k = omega arith in
+      subst (λ m. P m (get_or all m d)) same (subst (P n) (sym (next d)) here))
+      (cases_lt k n)
+
+  pub more_taken : {Y : Type 0} (f : X → Y) (x : X) → n < length all → get_or all n x ≡ x → (old new before : List Y)
+      → before ≡ old ++ map f (take n all) → new ≡ before ++ f x ∷ [] → new ≡ old ++ map f (take (n + 1) all)
+  more_taken {Y = Y} f x lt next old new before was is =
+      is ∙ ap (λ (ys : List Y). ys ++ f x ∷ []) was ∙ append_assoc old (map f (take n all)) (f x ∷ [])
+      ∙ ap (λ (ys : List Y). old ++ ys)
+      (sym (map-append f (take n all) (x ∷ [])) ∙ ap (map f) (ap (λ y. take n all ++ y ∷ []) (sym next) ∙ sym (take_more all n x lt)))
+
+-- ---- a lane more is joined, and the seat of all is `now`
+
+module _ {K X L : Type 0} (digest : List ℕ → Hash256) (held : K → Option Contents) (start : CoreStart K) (seat : L → SeatView (Entry X) (CoreStart K))
+    (all : List L) (n : ℕ) (x : L) (next : (d : L) → get_or all n d ≡ x) (now o : SeatView (Entry X) (CoreStart K))
+    (taken : o ≡ seat x) (lowest : (let s = seat x in s.lowest) ≡ n + 1)
+    (theirs : GrewByOthers worker_of o.lowest o.end o.seen now.seen) where
+  grown : let s = seat x in GrewByOthers worker_of (n + 1) s.end s.seen now.seen
+  grown = subst (λ (v : SeatView (Entry X) (CoreStart K)). GrewByOthers worker_of (n + 1) v.end v.seen now.seen) taken
+      (subst (λ m. GrewByOthers worker_of m o.end o.seen now.seen) (ap (λ (v : SeatView (Entry X) (CoreStart K)). v.lowest) taken ∙ lowest) theirs)
+
+  pub last_joined : now.end ≡ o.end → (d : L) (k : ℕ) → n + 1 ≡ k + 1
+      → let s = seat (get_or all k d) in (now.end ≡ s.end) × GrewByOthers worker_of (k + 1) s.end s.seen now.seen
+  last_joined end d k step =
+      let same : n ≡ k = omega arith in
+      subst (λ m. let s = seat (get_or all m d) in (now.end ≡ s.end) × GrewByOthers worker_of (m + 1) s.end s.seen now.seen) same
+      (subst (λ l. let s = seat l in (now.end ≡ s.end) × GrewByOthers worker_of (n + 1) s.end s.seen now.seen) (sym (next d))
+      (end ∙ ap (λ (v : SeatView (Entry X) (CoreStart K)). v.end) taken, grown))
+
+  pub it_knows : (let s = seat x in s.lowest < s.end) → let s = seat x in KnowsSame digest held start (n + 1) s.seen now.seen
+  it_knows some = let s = seat x in knows digest held start (n + 1) s.end (n + 1) (omega arith) (omega (arith, some, lowest)) s.seen now.seen grown
+
+module _ {K X : Type 0} (digest : List ℕ → Hash256) (held : K → Option Contents) (start : CoreStart K)
+    (whole now : SeatView (Entry X) (CoreStart K)) (mine : GrewByOthers worker_of whole.lowest whole.end whole.seen now.seen) (lowest : whole.lowest ≡ 0) where
+  -- what one of the numbers knew by the seat so far, it knows by the seat now
+  pub still_knows : (n worker : ℕ) → whole.end ≡ n + 1 → worker ≤ n → (seen : List (Entry X))
+      → KnowsSame digest held start worker seen whole.seen → KnowsSame digest held start worker seen now.seen
+  still_knows n worker end le seen knew = knows_then digest held start worker seen whole.seen now.seen knew
+      (knows digest held start whole.lowest whole.end worker (omega (arith, lowest)) (omega (arith, end, le)) whole.seen now.seen mine)

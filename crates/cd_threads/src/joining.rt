@@ -27,16 +27,16 @@ pub(crate) fn join_lanes<'a, K: Keeper, H: Hash32, R: Wait + Sync>(
         (length lanes.items + 1) (slice_index_or lanes.items k d) }
     ensures of { IsSeatOf db.now result.0 × (result.0.lowest ≡ 0) }
     ensures first { KnowsSame H.digest_of K.held db.now.start 0 first.seen result.0.seen }
-    ensures knows { (k : ℕ) (d : _) → k < length lanes.items → KnowsSame H.digest_of K.held db.now.start (k + 1)
-        (slice_index_or lanes.items k d).seat.seat.seen result.0.seen }
-    ensures alone { length lanes.items ≡ 0 → result.0 ≡ first }
-    ensures last { (d : _) (k : ℕ) → length lanes.items ≡ k + 1
-        → (result.0.end ≡ (slice_index_or lanes.items k d).seat.seat.end)
-        × GrewByOthers worker_of (k + 1) (slice_index_or lanes.items k d).seat.seat.end
-            (slice_index_or lanes.items k d).seat.seat.seen result.0.seen }
-    ensures ends { ends.new.items ≡ ends.old.items ++ map (λ l. l.outcomes) lanes.items }
-    ensures want { result.1 ≡ false → (k : ℕ) (d : _) → k < length lanes.items
-        → (slice_index_or lanes.items k d).memory ≡ false }
+    ensures knows { (k : ℕ) (d : _) → k < length lanes.entry.items → KnowsSame H.digest_of K.held db.now.start (k + 1)
+        (slice_index_or lanes.entry.items k d).seat.seat.seen result.0.seen }
+    ensures alone { length lanes.entry.items ≡ 0 → result.0 ≡ first }
+    ensures last { (d : _) (k : ℕ) → length lanes.entry.items ≡ k + 1
+        → (result.0.end ≡ (slice_index_or lanes.entry.items k d).seat.seat.end)
+        × GrewByOthers worker_of (k + 1) (slice_index_or lanes.entry.items k d).seat.seat.end
+        (slice_index_or lanes.entry.items k d).seat.seat.seen result.0.seen }
+    ensures ends { ends.new.items ≡ ends.old.items ++ map (λ l. l.outcomes) lanes.entry.items }
+    ensures want { result.1 ≡ false → (k : ℕ) (d : _) → k < length lanes.entry.items
+        → (slice_index_or lanes.entry.items k d).memory ≡ false }
 {
     let mut whole = first;
     let mut want = false;

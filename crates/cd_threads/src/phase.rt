@@ -14,7 +14,12 @@ use std::sync::Wait;
 use std::thread::Threads;
 
 /// Does the tasks of a phase, its workers side by side. Where the lanes find no memory, no task is done.
-pub(crate) fn do_phase<K: Keeper + Send, H: Hash32 + Send + Sync, P: Holdup, R: Threads + Wait + Sync>(
+pub(crate) fn do_phase<
+    K: Keeper + Send,
+    H: Hash32 + Send + Sync,
+    P: Holdup,
+    R: Threads + Wait + Sync,
+>(
     rt: &R,
     alloc: Global,
     db: &SharedDb<K, H>,
@@ -45,5 +50,12 @@ pub(crate) fn do_phase<K: Keeper + Send, H: Hash32 + Send + Sync, P: Holdup, R: 
     } = lanes.remove(0);
     ends.push_reserved(outcomes);
     let (seat, want) = join_lanes(db, seat.into_seat(), lanes, &mut ends);
-    (seat, if memory || want { Err(Memory) } else { Ok(ends) })
+    (
+        seat,
+        if memory || want {
+            Err(Memory)
+        } else {
+            Ok(ends)
+        },
+    )
 }

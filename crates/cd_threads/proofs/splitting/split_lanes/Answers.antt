@@ -21,7 +21,7 @@ loop-next-preserved g c =
             place = c.lane_of.ensures.place ∙ omega (arith, inv.count, long);
             its_seat = c.lane_of.ensures.its_seat
                 ∙ part_below s c.loop-next.rest (length items) (inv.rest ∙ ap (λ n. upper_part n s) long) c.args.workers c.loop-next.next c.split-upper.new.seat c.split-upper.ensures.below
-                    (omega (arith, inv.count, long)) c.loop-next-test.true;
+                (omega (arith, inv.count, long)) c.loop-next-test.true;
             its_gate = c.lane_of.ensures.its_gate;
             no_ends = c.lane_of.ensures.no_ends;
             no_want = c.lane_of.ensures.no_want;
@@ -38,12 +38,12 @@ returns-clause-each g c k d lt =
     let long : vec_len c.loop-next.lanes ≡ length items = c.loop-next.lanes.ok.0 in
     let end : c.loop-next.next ≡ c.args.workers = omega (arith, c.loop-next-test.false, c.loop-next.auto.next-end) in
     subst (λ xs. (k : ℕ) (d : _) → k < length xs → IsLaneFor (λ t. t.seat) (λ t. t.db.now) c.args.db.now k (part_of c.args.workers k s) (get_or xs k d))
-        (sym c.push_reserved-2.ensures.items)
-        (each_push (λ k lane. IsLaneFor (λ t. t.seat) (λ t. t.db.now) c.args.db.now k (part_of c.args.workers k s) lane) items c.lane_of-2.result inv.lanes (record {
-          place = c.lane_of-2.ensures.place ∙ omega (arith, inv.count, long, end);
-          its_seat = c.lane_of-2.ensures.its_seat
-              ∙ part_last s c.loop-next.rest (length items) (inv.rest ∙ ap (λ n. upper_part n s) long) c.args.workers (omega (arith, inv.count, long, end));
-          its_gate = c.lane_of-2.ensures.its_gate;
-          no_ends = c.lane_of-2.ensures.no_ends;
-          no_want = c.lane_of-2.ensures.no_want;
-        })) k d (omega (arith, c.push_reserved-2.ensures.len, c.push_reserved-2.new.self.ok.0, inv.count, end, lt))
+    (sym c.push_reserved-2.ensures.items)
+    (each_push (λ k lane. IsLaneFor (λ t. t.seat) (λ t. t.db.now) c.args.db.now k (part_of c.args.workers k s) lane) items c.lane_of-2.result inv.lanes (record {
+      place = c.lane_of-2.ensures.place ∙ omega (arith, inv.count, long, end);
+      its_seat = c.lane_of-2.ensures.its_seat
+          ∙ part_last s c.loop-next.rest (length items) (inv.rest ∙ ap (λ n. upper_part n s) long) c.args.workers (omega (arith, inv.count, long, end));
+      its_gate = c.lane_of-2.ensures.its_gate;
+      no_ends = c.lane_of-2.ensures.no_ends;
+      no_want = c.lane_of-2.ensures.no_want;
+    })) k d (omega (arith, c.push_reserved-2.ensures.len, c.push_reserved-2.new.self.ok.0, inv.count, end, lt))
