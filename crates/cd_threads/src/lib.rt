@@ -1,6 +1,7 @@
-//! A feed's tasks, done on threads over a core that they share: phase after phase, and in each its workers side by side.
+//! A feed on threads over a core that they share: phase after phase, and in each its workers side by side.
 #![tactic(auto)]
 
+mod ending;
 mod feed;
 mod joining;
 mod phase;
