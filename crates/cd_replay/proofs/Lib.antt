@@ -1,5 +1,5 @@
 mod OnCore
-mod PinsGrow
+pub mod PinsGrow
 mod PhaseLaws
-mod FeedLaws
+pub mod FeedLaws
 mod CoveredLaws

@@ -1,5 +1,5 @@
 //! The shared core and its seats.
-ghost use Rattle.std.specs.Prelude.{◌≡◌, ◌<◌, [], length, IfOk, IfErr};
+ghost use Rattle.std.specs.Prelude.{◌≡◌, ◌<◌, [], length, All, IfOk, IfErr};
 ghost use Rattle.cd_gate.specs.Gates.{IsSeatOf, IsFirstSeat, IsWholeSeat, below_part, upper_part, joined_seat};
 ghost use Rattle.cd_gate.specs.Histories.{GrewByOthers};
 ghost use Rattle.cd_shared.specs.SharedTurns.{worker_of};
@@ -38,23 +38,26 @@ pub struct DbSeat<K: Keeper, H: Hash32> {
 }
 
 impl<K: Keeper, H: Hash32> Model for DbSeat<K, H> {
-    ghost use Rattle.std.specs.Prelude.{◌≡◌, ◌<◌, length};
+    ghost use Rattle.std.specs.Prelude.{◌≡◌, ◌<◌, length, All};
     ghost use Rattle.cd_gate.specs.Gates.{SeatView};
     ghost use Rattle.cd_event.specs.declared.entry.Entry.{Entry};
     ghost use Rattle.cd_core.specs.declared.start.CoreStart.{CoreStart};
+    ghost use Rattle.cd_shared.specs.SharedTurns.{worker_of};
 
     ghost Value = { SeatView (Entry H) (CoreStart K) };
 
     ghost view = { λ s. s.seat };
 
     ghost invariant = { λ s. (s.seat.lowest < s.seat.end) × (s.worker ≡ s.seat.lowest)
-        × (s.front ≡ length s.seat.seen) };
+        × (s.front ≡ length s.seat.seen)
+        × All (λ e. worker_of e < s.seat.workers) s.seat.seen };
 }
 
 impl<K: Keeper, H: Hash32> DbSeat<K, H> {
-    /// How many entries the seat has seen.
+    /// How many entries the seat has seen. Each was made under a number of the shared core's.
     pub fn front(&self) -> u64
-        ensures { result ≡ length self.now.seen }
+        ensures length { result ≡ length self.now.seen }
+        ensures numbers { All (λ e. worker_of e < self.now.workers) self.now.seen }
     {
         self.front
     }

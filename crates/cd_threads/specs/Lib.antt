@@ -1,1 +1,4 @@
 pub mod Ran
+pub mod Seats
+pub mod Serving
+pub mod Whole

@@ -1,0 +1,6 @@
+mod EndingLaws
+mod FeedLaws
+mod LaneLaws
+mod PartLaws
+mod SeatLaws
+mod ServedLaws
