@@ -8,6 +8,8 @@ mod names;
 #[cfg(test)]
 mod scripts;
 #[cfg(test)]
+mod stops;
+#[cfg(test)]
 mod tables;
 #[cfg(test)]
 mod tests;

@@ -215,7 +215,12 @@ fn take_all(
 }
 
 /// Plays a script on a keeper of which these calls fail, and gives the keeper. Each failed call made an entry more.
-fn play(alloc: Global, script: &Script, fails: Vec<u64>, failed: &mut u64) -> Result<Untold, Fail> {
+pub(crate) fn play(
+    alloc: Global,
+    script: &Script,
+    fails: Vec<u64>,
+    failed: &mut u64,
+) -> Result<Untold, Fail> {
     let mut core = empty_core(alloc, script.limit, fails);
     if !take_all(alloc, &mut core, script.steps, failed)? {
         return Err(Fail::from("another answer than is due"));
@@ -228,7 +233,7 @@ fn play(alloc: Global, script: &Script, fails: Vec<u64>, failed: &mut u64) -> Re
 }
 
 /// Whether the keeper has exactly cells with these counts.
-fn has_cells(keeper: &mut SteadyKeeper, due: &[(u8, u64)]) -> Result<bool, Fail> {
+pub(crate) fn has_cells(keeper: &mut SteadyKeeper, due: &[(u8, u64)]) -> Result<bool, Fail> {
     let mut after = None;
     for (hash, count) in due {
         let Some((found, bytes)) = keeper.next_cell(after)? else {
@@ -243,7 +248,7 @@ fn has_cells(keeper: &mut SteadyKeeper, due: &[(u8, u64)]) -> Result<bool, Fail>
 }
 
 /// Whether the keeper has exactly descriptions of these blocks, which stand in the order of their keys.
-fn has_blocks(
+pub(crate) fn has_blocks(
     alloc: Global,
     keeper: &mut SteadyKeeper,
     due: &[(Name, bool)],

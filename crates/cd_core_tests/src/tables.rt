@@ -73,6 +73,16 @@ pub(crate) const EXPIRY: Script = Script {
     ],
 };
 
+/// What is held of it where it is stopped before or after a batch, and opened again.
+pub(crate) const EXPIRY_OPENED: [Held; 6] = [
+    Held(&[], &[]),
+    Held(&[(3, 1)], &[(FIRST, false)]),
+    Held(&[(3, 2)], &[(FIRST, false), (SAME, false)]),
+    Held(&[(3, 1)], &[(SAME, false)]),
+    Held(&[(3, 2)], &[(SHARD, false), (SAME, false)]),
+    Held(&[(3, 3)], &[(SHARD, false), (NAMING, false), (SAME, false)]),
+];
+
 const STORED_AND_PINNED_TWICE: Held = Held(&[(3, 1)], &[(FIRST, false)]);
 
 const BOTH_STORED: Held = Held(
@@ -147,6 +157,18 @@ pub(crate) const COLLECTED_BY_A_MERGE: Script = Script {
     ],
 };
 
+/// What is held of it where it is stopped before or after a batch, and opened again: a leaving block goes.
+pub(crate) const COLLECTED_BY_A_MERGE_OPENED: [Held; 5] = [
+    Held(&[], &[]),
+    Held(&[(3, 1)], &[(FIRST, false)]),
+    Held(&[(3, 2)], &[(FIRST, false), (SAME, false)]),
+    Held(&[(3, 1)], &[(SAME, false)]),
+    Held(
+        &[(3, 1), (0x22, 1), (0x35, 1)],
+        &[(SAME, false), (LEFT, false)],
+    ),
+];
+
 /// A pinned block that leaves and shares no cell stays whole until its last pin ends.
 pub(crate) const COLLECTED_BY_UNPIN: Script = Script {
     limit: 9,
@@ -175,6 +197,18 @@ pub(crate) const COLLECTED_BY_UNPIN: Script = Script {
         Held(&[(0x22, 1), (0x35, 1)], &[(LEFT, false)]),
     ],
 };
+
+/// The same of it: the leaving block takes its cell along.
+pub(crate) const COLLECTED_BY_UNPIN_OPENED: [Held; 5] = [
+    Held(&[], &[]),
+    Held(&[(3, 1)], &[(FIRST, false)]),
+    Held(
+        &[(3, 1), (0x22, 1), (0x35, 1)],
+        &[(FIRST, false), (LEFT, false)],
+    ),
+    Held(&[(0x22, 1), (0x35, 1)], &[(LEFT, false)]),
+    Held(&[(0x22, 1), (0x35, 1)], &[(LEFT, false)]),
+];
 
 // ---- refusals
 

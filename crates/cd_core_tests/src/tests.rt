@@ -1,8 +1,10 @@
 use crate::cores::{empty_core, full_count_of_four_places};
 use crate::scripts::{Deed, Due, Step, play_all, take};
+use crate::stops::opens_after_each_batch;
 use crate::tables::{
-    CLASHES, COLLECTED_BY_A_MERGE, COLLECTED_BY_UNPIN, EXPIRY, FIRST, FULL_COUNTS, LEFT_AND_RIGHT,
-    MERGED, MERGED_AND_COLLECTED, MERGED_ANEW, NAMES, ONE, RIGHT_AND_LEFT, TWICE,
+    CLASHES, COLLECTED_BY_A_MERGE, COLLECTED_BY_A_MERGE_OPENED, COLLECTED_BY_UNPIN,
+    COLLECTED_BY_UNPIN_OPENED, EXPIRY, EXPIRY_OPENED, FIRST, FULL_COUNTS, LEFT_AND_RIGHT, MERGED,
+    MERGED_AND_COLLECTED, MERGED_ANEW, NAMES, ONE, RIGHT_AND_LEFT, TWICE,
 };
 use cd_base::Hash256;
 use std::test::Fail;
@@ -32,6 +34,19 @@ fn blocks_expire_and_are_collected(rt: HostRuntime) -> Result<(), Fail> {
         "collected by a merge"
     );
     assert!(rt; play_all(alloc, &COLLECTED_BY_UNPIN)?, "collected by unpin");
+    Ok(())
+}
+
+#[test]
+fn a_stopped_store_is_opened_and_settled(rt: HostRuntime) -> Result<(), Fail> {
+    let alloc = rt.alloc();
+    for (script, opened) in [
+        (&EXPIRY, EXPIRY_OPENED.as_slice()),
+        (&COLLECTED_BY_A_MERGE, &COLLECTED_BY_A_MERGE_OPENED),
+        (&COLLECTED_BY_UNPIN, &COLLECTED_BY_UNPIN_OPENED),
+    ] {
+        assert!(rt; opens_after_each_batch(alloc, script, opened)?);
+    }
     Ok(())
 }
 
