@@ -13,7 +13,7 @@ use Rattle.cd_core.specs.Workers.{is_own, made_by, named_by}
 use Rattle.cd_feed.specs.declared.feed.Task.{Task}
 use Rattle.cd_run.specs.declared.outcome.Outcome.{Outcome}
 use Rattle.cd_run.specs.Covers.{of_worker, WorkerBegun}
-use Rattle.cd_lanes.specs.Lanes.{TasksRun, WentOn, WorkerDone, WorkerStopped}
+use Rattle.cd_lanes.specs.Lanes.{TasksRun, WentOn}
 use Rattle.cd_lanes.proofs.TaskLaws.{begun_of_tasks}
 use Rattle.cd_phases.specs.Sides.{TasksRan}
 use Rattle.cd_threads.specs.Seats.{KnowsSame}

@@ -1,8 +1,7 @@
 -- What the lanes of a phase did, put together: the part of the phase.
-use Rattle.std.proofs.Common.{◌≡◌, ◌⊎◌, ⊎_elim, inl, inr, ℕ, ◌+◌, ◌-◌, ◌<◌, ◌≤◌, ◌==◌, Bool, false, true, if◌then◌else◌, ne_eqb, eq-eqb, List, [], ◌∷◌, ◌++◌, length, map, get_or, drop, All, Option, Some, refl, sym, ap, subst, ◌∙◌, arith, append_assoc, append-nil}
+use Rattle.std.proofs.Common.{◌≡◌, ◌⊎◌, ⊎_elim, inl, inr, ℕ, ◌+◌, ◌-◌, ◌<◌, ◌≤◌, Bool, false, if◌then◌else◌, eq-eqb, List, [], ◌++◌, length, map, drop, All, Option, Some, refl, sym, ap, subst, ◌∙◌, arith, append_assoc, append-nil}
 use Rattle.std.specs.Prelude.{slice_get, slice_index_or}
 use Rattle.std.specs.Option.{option_map}
-use Rattle.std.proofs.lemmas.Bool.{cases_lt}
 use Rattle.std.proofs.lemmas.List.{drop_at, length-map}
 use Rattle.std.proofs.lemmas.List.Elements.{All-nil, All-append, All-drop, All-weaker}
 use Rattle.std.proofs.lemmas.Option.{slice_get-map, slice_get_within, slice_get-get_or, get_or_from_slice_get}
@@ -20,9 +19,9 @@ use Rattle.cd_lanes.specs.Lanes.{TasksRun}
 use Rattle.cd_lanes.proofs.TaskLaws.{none_begun}
 use Rattle.cd_phases.specs.declared.lane.Lane.{Lane}
 use Rattle.cd_shared.specs.SharedTurns.{worker_of, SeatGoesOn}
-use Rattle.cd_threads.specs.Seats.{IsLaneFor, IsLaneAt, KnowsSame, part_of}
+use Rattle.cd_threads.specs.Seats.{IsLaneFor, KnowsSame, part_of}
 use Rattle.cd_threads.specs.Serving.{LaneDid}
-use Rattle.cd_threads.specs.Whole.{IsAllOf, SeenMore, PhaseDone, PhaseStopped, pins_seen}
+use Rattle.cd_threads.specs.Whole.{IsAllOf, PhaseDone, PhaseStopped, pins_seen}
 use Rattle.cd_threads.proofs.ServedLaws.{head_of}
 use Rattle.cd_threads.proofs.LaneLaws.{worker, seen, made, faults, named, ran_went, ran_worker, its_pins, lane_ran, lane_begun}
 

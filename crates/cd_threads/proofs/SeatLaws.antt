@@ -1,6 +1,6 @@
 -- Seats among lanes.
-use Rattle.std.proofs.Common.{◌≡◌, ◌⊎◌, ⊎_elim, inl, inr, ℕ, ◌+◌, ◌<◌, ◌≤◌, ◌==◌, Bool, true, false, if◌then◌else◌, ne_eqb, eq-eqb, List, [], ◌∷◌, ◌++◌, length, map, get_or, take, drop, refl, sym, ap, subst, ◌∙◌, arith, length-append, append_assoc}
-use Rattle.std.specs.Prelude.{All, Option}
+use Rattle.std.proofs.Common.{◌≡◌, ◌⊎◌, ⊎_elim, inl, inr, ℕ, ◌+◌, ◌<◌, ◌≤◌, ◌==◌, Bool, false, if◌then◌else◌, ne_eqb, eq-eqb, List, [], ◌∷◌, ◌++◌, length, map, get_or, take, drop, refl, sym, ap, subst, ◌∙◌, arith, length-append, append_assoc}
+use Rattle.std.specs.Prelude.{Option}
 use Rattle.std.proofs.lemmas.Bool.{cases_lt}
 use Rattle.std.proofs.lemmas.List.{get_or_append_left, get_or_push, get_or_default, get_or-drop, drop-drop, take_more, map-append}
 use Rattle.cd_base.specs.declared.hash.Hash256.{Hash256}
@@ -26,12 +26,6 @@ each_push P xs x each here k d lt = ⊎_elim
 module _ {E D : Type 0} (gate : GateView D) (s : SeatView E D) (of : IsSeatOf gate s) (t : SeatView E D) where
   pub of_upper : (at : ℕ) → t ≡ upper_part at s → IsSeatOf gate t
   of_upper at is = subst (IsSeatOf gate) (sym is) (record { name = of.name; start = of.start; workers = of.workers })
-
-  pub of_below : (at : ℕ) → t ≡ below_part at s → IsSeatOf gate t
-  of_below at is = subst (IsSeatOf gate) (sym is) (record { name = of.name; start = of.start; workers = of.workers })
-
-  pub of_more : t ≡ record s { seen = t.seen } → IsSeatOf gate t
-  of_more is = subst (IsSeatOf gate) (sym is) (record { name = of.name; start = of.start; workers = of.workers })
 
   pub of_joined : (o : SeatView E D) → t ≡ joined_seat s o → IsSeatOf gate t
   of_joined o is = subst (IsSeatOf gate) (sym is) (record { name = of.name; start = of.start; workers = of.workers })

@@ -1,8 +1,7 @@
 -- Inner: seats that are parted among workers, and put together again.
-use Rattle.std.specs.Prelude.{◌≡◌, ℕ, ◌+◌, ◌<◌, ◌==◌, if◌then◌else◌, false, List, [], ◌++◌, Option}
+use Rattle.std.specs.Prelude.{◌≡◌, ℕ, ◌+◌, ◌<◌, ◌==◌, if◌then◌else◌, false, List, [], Option}
 use Rattle.cd_base.specs.declared.hash.Hash256.{Hash256}
 use Rattle.cd_event.specs.declared.entry.Entry.{Entry}
-use Rattle.cd_event.specs.Pins.{Named}
 use Rattle.cd_gate.specs.Gates.{GateView, SeatView, IsSeatOf}
 use Rattle.cd_core.specs.declared.start.CoreStart.{CoreStart}
 use Rattle.cd_core.specs.Workers.{made_by, named_by}
@@ -36,9 +35,3 @@ module _ {K X : Type 0} (digest : List ℕ → Hash256) (held : K → Option Con
   pub record KnowsSame (worker : ℕ) (seen now : List (Entry X)) : Type 0 where
     pub made : made_by worker now ≡ made_by worker seen
     pub named : named_by digest held worker start now ≡ named_by digest held worker start seen
-
-  -- a seat has seen more, which is such
-  pub record SawMore (Are : (ℕ → List Named) → List (Entry X) → Type 0) (seen now : List (Entry X)) : Type 0 where
-    pub entries : List (Entry X)
-    pub added : now ≡ seen ++ entries
-    pub are : Are (λ w. named_by digest held w start now) entries

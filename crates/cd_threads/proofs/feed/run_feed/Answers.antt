@@ -1,4 +1,4 @@
-use Rattle.std.proofs.Common.{◌≤◌, List, sym, subst, ◌∙◌}
+use Rattle.std.proofs.Common.{◌≤◌, List, sym, subst}
 use Rattle.std.proofs.lemmas.Result.{IfOk-weaker, on_err_weaker}
 use Rattle.cd_feed.specs.declared.feed.Phase.{Phase}
 use Rattle.cd_run.specs.Covers.{CutEarly}
@@ -6,7 +6,7 @@ use Rattle.cd_run.specs.ReportText.{ends_of}
 use Rattle.cd_lanes.specs.Left.{all_serves}
 use Rattle.cd_lanes.specs.Phases.{PhasesRun}
 use Rattle.cd_replay.proofs.FeedLaws.{serves_fit}
-use Rattle.cd_threads.specs.Ran.{FeedDone, FeedStopped}
+use Rattle.cd_threads.specs.Ran.{FeedDone}
 use Rattle.cd_threads.specs.Whole.{PhasesDone, PhasesStopped}
 use Rattle.cd_threads.proofs.FeedLaws.{fed, unfed}
 use Rattle.cd_threads.proofs.feed.run_feed.Goals as goal

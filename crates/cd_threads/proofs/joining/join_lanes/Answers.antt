@@ -1,8 +1,8 @@
-use Rattle.std.proofs.Common.{◌≡◌, ◌⊎◌, ⊎_elim, ◌≤◌, ◌<◌, ◌+◌, ◌∷◌, [], ◌++◌, ℕ, Bool, true, false, length, get_or, vec_len, refl, sym, ap, subst, ◌∙◌, arith, append-nil, length-drop, true≢false, ◌-◌}
+use Rattle.std.proofs.Common.{◌≡◌, ◌<◌, ◌+◌, false, length, get_or, refl, sym, ap, subst, ◌∙◌, arith, append-nil, length-drop, true≢false, ◌-◌}
 use Rattle.cd_gate.specs.Gates.{SeatView, IsSeatOf}
 use Rattle.cd_event.specs.declared.entry.Entry.{Entry}
 use Rattle.cd_core.specs.declared.start.CoreStart.{CoreStart}
-use Rattle.cd_threads.specs.Seats.{KnowsSame, IsLaneAt}
+use Rattle.cd_threads.specs.Seats.{KnowsSame}
 use Rattle.cd_threads.proofs.SeatLaws.{next_at, rest_next, of_joined, knows_itself, each_next, more_taken, last_joined, it_knows, still_knows}
 use Rattle.cd_threads.proofs.joining.join_lanes.Goals.{then-want, else-want}
 use Rattle.cd_threads.proofs.joining.join_lanes.Goals as goal

@@ -1,4 +1,4 @@
-use Rattle.std.proofs.Common.{◌≡◌, ◌<◌, ◌≤◌, ℕ, length, List, ap, sym, subst, ◌∙◌}
+use Rattle.std.proofs.Common.{ap, sym, subst, ◌∙◌}
 use Rattle.std.proofs.lemmas.List.{with_items_is}
 use Rattle.cd_threads.proofs.ServedLaws.{Swapped, head_of, ready, did, left, untouched}
 use Rattle.cd_threads.proofs.serving.run_served.Goals as goal

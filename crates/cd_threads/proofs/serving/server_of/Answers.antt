@@ -1,4 +1,4 @@
-use Rattle.std.proofs.Common.{◌≡◌, ◌≤◌, List, [], subst, ◌∙◌}
+use Rattle.std.proofs.Common.{◌≤◌, List, [], subst, ◌∙◌}
 use Rattle.std.proofs.lemmas.List.{get_or_default}
 use Rattle.cd_feed.specs.declared.feed.Task.{Task}
 use Rattle.cd_lanes.specs.Lanes.{serves}

@@ -1,4 +1,4 @@
-use Rattle.std.proofs.Common.{◌≡◌, ◌≤◌, ◌<◌, ◌+◌, ◌∷◌, [], ◌++◌, ℕ, length, get_or, vec_len, sym, ap, subst, ◌∙◌, arith}
+use Rattle.std.proofs.Common.{◌≡◌, ◌<◌, ℕ, length, get_or, vec_len, sym, ap, subst, ◌∙◌, arith}
 use Rattle.cd_gate.specs.Gates.{upper_part}
 use Rattle.cd_threads.specs.Seats.{IsLaneFor, part_of}
 use Rattle.cd_threads.proofs.SeatLaws.{each_push, of_upper, part_below, part_last, rest_above}
