@@ -62,7 +62,21 @@ pub(crate) fn two_blocks(alloc: Global) -> Result<Vec<u8>, Fail> {
     Ok(text)
 }
 
-/// Its report, in every order of turns.
+/// A zero state, and then a worker that serves it and one with a block over it.
+pub(crate) fn serve_and_block(alloc: Global) -> Result<Vec<u8>, Fail> {
+    let mut text = Vec::new(alloc);
+    text.extend_from_slice(b"cdf1")?;
+    text.extend_from_slice(&[0, 2, 0, 1, 0, 1])?;
+    put_zero(&mut text)?;
+    // A serve of pieces of one byte.
+    text.extend_from_slice(&[0, 2, 0, 1, 6])?;
+    put_key(&mut text, 0, 3, 0)?;
+    text.extend_from_slice(&[0, 0, 0, 1, 0, 1])?;
+    put_block(&mut text, 0x10)?;
+    Ok(text)
+}
+
+/// The report of two blocks, in every order of turns.
 pub(crate) const TWO_BLOCKS_LINES: &str = "\
 0.0.0 zero ok 0000000000000000000000000000000000000000000000000000000000000003 cells 1
 1.0.0 block ok 0000000000000000000000000000000000000000000000000000000000000035 new 2
