@@ -124,4 +124,5 @@ def main():
         print(bag(state.update(writer)).hex())
 
 
-main()
+if __name__ == "__main__":
+    main()
