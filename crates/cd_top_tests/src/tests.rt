@@ -7,7 +7,9 @@ use cd_restart::ScanFault;
 use cd_run::NoHoldup;
 use cd_top::{Ended, InputFault, Status, TopRefusal, WordFault, celldb_once, celldb_run};
 use std::alloc::Global;
+use std::sync::Wait;
 use std::test::Fail;
+use std::thread::Threads;
 
 /// The bag of the cell without bits and references.
 pub(crate) const ONE_CELL: [u8; 13] = [0xb5, 0xee, 0x9c, 0x72, 1, 1, 1, 1, 0, 2, 0, 0, 0];
@@ -332,13 +334,13 @@ fn feeds_are_done_and_told(rt: HostRuntime) -> Result<(), Fail> {
 }
 
 /// What a call on threads of one word over a steady keeper and this input answers.
-fn told_by_run(
-    rt: &HostRuntime,
+fn told_by_run<R: Threads + Wait + Sync>(
+    rt: &R,
+    alloc: Global,
     word: &str,
     input: &[u8],
     keeper: SteadyKeeper,
 ) -> Result<(Status, Vec<u8>, SteadyKeeper), Fail> {
-    let alloc = rt.alloc();
     let mut words = Vec::new(alloc);
     words.push(String::from_str(alloc, word)?)?;
     let mut input = SteadySource::new(input.to_vec(alloc)?);
@@ -358,15 +360,21 @@ fn told_by_run(
 #[test]
 fn feeds_are_run_on_threads_and_told(rt: HostRuntime) -> Result<(), Fail> {
     let alloc = rt.alloc();
-    let (status, out, keeper) = told_by_run(&rt, "run", &NO_PHASE, SteadyKeeper::new(alloc))?;
+    let (status, out, keeper) = told_by_run(
+        &rt,
+        alloc,
+        "run",
+        &NO_PHASE,
+        SteadyKeeper::new(alloc),
+    )?;
     assert!(rt; matches!(status, Status::Ok));
     assert!(rt; out.as_slice() == NO_LINES.as_bytes() && keeper.batches() == 0);
     let feed = one_zero(alloc)?;
-    let (status, out, keeper) = told_by_run(&rt, "run", &feed, keeper)?;
+    let (status, out, keeper) = told_by_run(&rt, alloc, "run", &feed, keeper)?;
     assert!(rt; matches!(status, Status::Ok));
     assert!(rt; out.as_slice() == STORED_LINES.as_bytes() && keeper.batches() == 1);
     // Each call leaves the other one's commands alone.
-    let (status, out, keeper) = told_by_run(&rt, "replay", &feed, keeper)?;
+    let (status, out, keeper) = told_by_run(&rt, alloc, "replay", &feed, keeper)?;
     assert!(rt; matches!(status, Status::Usage(WordFault::Usage)));
     assert!(rt; out.is_empty() && keeper.batches() == 1);
     let (status, out, _) = told(alloc, "run", &feed, keeper)?;
