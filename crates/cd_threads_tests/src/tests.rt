@@ -1,9 +1,11 @@
+ghost use Rattle.cd_fan.specs.Fans.{HaveGotBytes};
+
 use crate::feeds::{TWO_BLOCKS_LINES, serve_and_block, two_blocks};
 use crate::turnstile::{Holding, Signal, Turnstile, WithClient};
 use cd_base::{SteadySink, SteadySource};
 use cd_cell::WeakSum;
 use cd_core::Core;
-use cd_fan::Client;
+use cd_fan::{Client, SliceClient};
 use cd_keeper::{MemoryKeeper, SteadyKeeper};
 use cd_restart::open_core;
 use cd_run::{Holdup, NoHoldup};
@@ -20,7 +22,9 @@ fn run<P: Holdup, R: Threads + Wait + Sync>(
     feed: Vec<u8>,
     clients: Vec<Client>,
     holdup: &P,
-) -> Result<(Vec<u8>, MemoryKeeper), Fail> {
+) -> Result<(Vec<u8>, MemoryKeeper), Fail>
+    requires fresh { HaveGotBytes (λ c. got c) 0 clients.items }
+{
     let mut words = Vec::new(alloc);
     words.push(String::from_str(alloc, "run")?)?;
     let mut input = SteadySource::new(feed);

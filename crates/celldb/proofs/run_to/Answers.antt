@@ -9,5 +9,5 @@ none-told got none (inl u) x = subst (λ o. IfSome o (λ bytes. length bytes ≡
 none-told got none (inr never) x = absurd never
 
 pub run-requires-clause-fresh : goal.run-requires-clause-fresh
-run-requires-clause-fresh g c = λ k d within. let b = get_or c.loop-path.clients.items k d in
+run-requires-clause-fresh g c κs within = λ k d lt. let b = get_or c.loop-path.clients.items k d in
     none-told (λ v x. (own-1.entry v).1.got x) (λ x. refl) b.vtable b.value
