@@ -59,6 +59,7 @@ pub fn status_of_client(fault: FileFault) -> Status
 }
 
 /// The files that words name.
+#[derive(Drop)]
 pub struct Places {
     /// The path of the database.
     pub db: Option<String>,

@@ -57,6 +57,42 @@ fn run_to<S: Source, O: Sink, E: Sink, K: Keeper + Send, R: Threads + Wait + Syn
     run::<_, _, _, _, Sha, _>(threads, alloc, words, input, out, err, keeper, clients)
 }
 
+/// Runs over the database file of a path.
+fn run_over_file<S: Source, O: Sink, E: Sink, R: Threads + Wait + Sync>(
+    rt: &HostRuntime,
+    threads: &R,
+    words: &[String],
+    places: &Places,
+    path: &str,
+    input: &mut S,
+    out: &mut O,
+    err: &mut E,
+) -> ExitCode {
+    match SqlKeeper::open(rt, path) {
+        Ok(keeper) => run_to(rt, threads, words, &places.to, input, out, err, keeper),
+        Err(fault) => end(status_of_keeper(fault), err),
+    }
+}
+
+/// Runs over the places that the words name.
+fn run_over<S: Source, O: Sink, E: Sink, R: Threads + Wait + Sync>(
+    rt: &HostRuntime,
+    threads: &R,
+    words: &[String],
+    places: &Places,
+    input: &mut S,
+    out: &mut O,
+    err: &mut E,
+) -> ExitCode {
+    match &places.db {
+        Some(path) => run_over_file(rt, threads, words, places, path.as_str(), input, out, err),
+        None => {
+            let keeper = SteadyKeeper::new(rt.alloc());
+            run_to(rt, threads, words, &places.to, input, out, err, keeper)
+        }
+    }
+}
+
 fn main(rt: HostRuntime) -> ExitCode {
     let alloc = rt.alloc();
     let mut input = StdSource::new(rt.reader());
@@ -67,26 +103,9 @@ fn main(rt: HostRuntime) -> ExitCode {
         Err(error) => return end(status_without_words(error.kind()), &mut err),
     };
     let behind = words_behind_name(&words);
-    let Places { db, to } = match places_of(alloc, behind) {
+    let places = match places_of(alloc, behind) {
         Ok(places) => places,
         Err(_) => return end(Status::Memory, &mut err),
     };
-    match db {
-        Some(path) => match SqlKeeper::open(&rt, path.as_str()) {
-            Ok(keeper) => run_to(
-                &rt, &rt, behind, &to, &mut input, &mut out, &mut err, keeper,
-            ),
-            Err(fault) => end(status_of_keeper(fault), &mut err),
-        },
-        None => run_to(
-            &rt,
-            &rt,
-            behind,
-            &to,
-            &mut input,
-            &mut out,
-            &mut err,
-            SteadyKeeper::new(alloc),
-        ),
-    }
+    run_over(&rt, &rt, behind, &places, &mut input, &mut out, &mut err)
 }
