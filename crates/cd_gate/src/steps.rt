@@ -44,7 +44,8 @@ fn await_turn<T: Journaled, R: Wait>(
     unreachable!()
 }
 
-/// Gives the value back, and the next ticket is served.
+/// Gives the value back, and the next ticket is served. A wake is a call of the system, so none is made where no further
+/// ticket is out: who takes one later finds it served.
 fn serve_next<T: Journaled>(table: &GateTable<T>, seat: &mut TableSeat<T>)
     requires table { IsGateTable table.now.table_id seat.old.table_id }
     requires done { (k : ℕ) × (x : T) × HasDone T.number T.entries T.start seat.old.me k x }
@@ -53,8 +54,10 @@ fn serve_next<T: Journaled>(table: &GateTable<T>, seat: &mut TableSeat<T>)
     ensures seen { (x : T) → seat.old.me.1 ≡ (0, Some x) ∷ []
         → seat.new.me ≡ served T.number T.entries T.start x seat.old.me }
 {
-    table.fetch_add::<ServeNext>(seat, 1, 1);
-    table.wake_all(1);
+    let served = table.fetch_add::<ServeNext>(seat, 1, 1);
+    if table.peek(0) != served.wrapping_add(1) {
+        table.wake_all(1);
+    }
 }
 
 /// Waits for a turn of the seat, and takes the value out.
