@@ -57,7 +57,7 @@ module _ {E S : Type 0} where
 -- ---- inside: a seat of the gate's table
 
 abbrev pub IsSized : TableId → Type 0
-IsSized name = (name.words ≡ 2) × (name.slots ≡ 1)
+IsSized name = (name.words ≡ 1) × (name.slots ≡ 1)
 
 -- the table of a gate, and a seat at it
 abbrev pub IsGateTable : TableId → TableId → Type 0
@@ -74,7 +74,7 @@ module _ {T E S : Type 0} where
     seen = s.me.0.seen;
   }
 
-  -- between two calls: no ticket, some numbers, no value in hand
+  -- between two calls: some numbers, no value in hand
   pub record IsResting (number : E → ℕ) (s : Seat (Option T) (SeatState E S)) : Type 0 where
     pub idle : s.me.0.role ≡ Idle
     pub some : s.me.0.lowest < s.me.0.end

@@ -92,7 +92,7 @@ impl<T: Journaled> Gate<T> {
             slots.destroy_empty();
             return Err((value.unwrap(), Memory));
         }
-        match Table::new(alloc, &[0, 0], slots, &origin) {
+        match Table::new(alloc, &[0], slots, &origin) {
             Ok((table, seat)) => Ok((Gate { table }, GateSeat { seat })),
             Err(Refused { mut slots }) => {
                 let value = slots.pop().unwrap();
@@ -142,7 +142,7 @@ impl<T: Journaled> Gate<T> {
         close(table, taken)
     }
 
-    /// Waits for the seat's turn, lends the value to the deed, and serves the next. Beside what the deed takes it takes no
+    /// Waits for the seat's turn, lends the value to the deed, and sets it free. Beside what the deed takes it takes no
     /// memory.
     pub fn turn<D: Deed<T>, R: Wait>(&self, rt: &R, seat: &mut GateSeat<T>, deed: D) -> D::Answer
         requires seat { IsSeatOf self.now seat.old }

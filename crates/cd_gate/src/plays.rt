@@ -4,31 +4,22 @@ use crate::seat_state::SeatState;
 use atomic_table::{Join, Play, Split};
 use std::marker::{Brand, PhantomData};
 
-/// The next ticket is taken.
-pub(crate) struct TakeTicket;
+/// The word is looked at and set. Where it was 0, the value is taken out of the slot with this very step.
+pub(crate) struct Take;
 
-impl<T: Journaled> Play<Option<T>, SeatState<T::Entry, T::Start>> for TakeTicket {
-    ghost use Rattle.cd_gate.specs.TurnRule.{TakesTicket};
+impl<T: Journaled> Play<Option<T>, SeatState<T::Entry, T::Start>> for Take {
+    ghost use Rattle.cd_gate.specs.TurnRule.{Takes};
 
-    ghost then = { TakesTicket T.number T.entries T.start };
+    ghost then = { Takes T.number T.entries T.start };
 }
 
-/// The ticket that is served is read. Where it is the seat's, the value is taken out of the slot with this very step.
-pub(crate) struct LookAtServed;
+/// The value goes back into the slot, and is free.
+pub(crate) struct GiveBack;
 
-impl<T: Journaled> Play<Option<T>, SeatState<T::Entry, T::Start>> for LookAtServed {
-    ghost use Rattle.cd_gate.specs.TurnRule.{LooksAtServed};
+impl<T: Journaled> Play<Option<T>, SeatState<T::Entry, T::Start>> for GiveBack {
+    ghost use Rattle.cd_gate.specs.TurnRule.{GivesBack};
 
-    ghost then = { LooksAtServed T.number T.entries T.start };
-}
-
-/// The value goes back into the slot, and the next ticket is served.
-pub(crate) struct ServeNext;
-
-impl<T: Journaled> Play<Option<T>, SeatState<T::Entry, T::Start>> for ServeNext {
-    ghost use Rattle.cd_gate.specs.TurnRule.{ServesNext};
-
-    ghost then = { ServesNext T.number T.entries T.start };
+    ghost then = { GivesBack T.number T.entries T.start };
 }
 
 /// Where a range of numbers is split: each call brings its own place.

@@ -1,5 +1,5 @@
-//! The rule of the gate's table. Word 0 is the next ticket and word 1 the ticket that is served, both modulo 2^64. The
-//! one slot has the value.
+//! The rule of the gate's table. Its word is 0 where the value is free, else 1, or 2 where threads may sleep. The one slot
+//! has the value.
 use crate::journaled::Journaled;
 use crate::seat_state::SeatState;
 use atomic_table::{Seat, Shared, Table, TableRule};

@@ -5,10 +5,8 @@ use std::collections::LinkedList;
 pub enum Role<E> {
     /// Nothing: it is between two calls.
     Idle,
-    /// It waits for the turn of this ticket.
-    Waiting(u64),
-    /// It has the turn of this ticket, and the value.
-    Holding(u64),
+    /// It has the turn, and the value.
+    Holding,
     /// It took in another seat: its numbers from this one on have seen this list.
     Joined(u64, LinkedList<E>),
 }

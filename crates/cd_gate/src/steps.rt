@@ -1,62 +1,90 @@
 //! What seats do at the table: a turn, in which the value is taken and given back, and the joining of two seats.
-ghost use Rattle.std.specs.Prelude.{◌≡◌, ℕ, ◌<◌, [], ◌∷◌, Some, None};
-ghost use Rattle.cd_gate.specs.declared.seat_state.Role.TheVariants.{Idle, Waiting, Holding};
+ghost use Rattle.std.specs.Prelude.{◌≡◌, ◌<◌, [], ◌∷◌, Some, None, true, false};
+ghost use Rattle.cd_gate.specs.declared.seat_state.Role.TheVariants.{Idle, Holding};
 ghost use Rattle.cd_gate.specs.Gates.{IsGateTable, IsSameSeat, IsResting};
 ghost use Rattle.cd_gate.specs.Histories.{GrewByOthers, GrewByTurn};
-ghost use Rattle.cd_gate.specs.TurnRule.{IsTicketOf, HasCome, GotTurn, HasDone, waiting, emptied, served, grown_seat};
+ghost use Rattle.cd_gate.specs.TurnRule.{HasCome, GotTurn, HasDone, emptied, ended, grown_seat};
 
 use crate::journaled::Journaled;
-use crate::plays::{JoinRanges, KeepLonger, LookAtServed, ServeNext, TakeTicket};
+use crate::plays::{GiveBack, JoinRanges, KeepLonger, Take};
 use crate::rule::{GateTable, OwnTable, TableSeat};
 use std::sync::Wait;
 
-/// The ticket of the seat's next turn.
-fn take_ticket<T: Journaled>(table: &GateTable<T>, seat: &mut TableSeat<T>) -> u64
+/// How often who finds the value taken looks again before it sleeps: a turn is often shorter than a sleep.
+const LOOKS: u32 = 100;
+
+/// Takes the value, if it is free.
+fn try_take<T: Journaled>(table: &GateTable<T>, seat: &mut TableSeat<T>) -> bool
     requires table { IsGateTable table.now.table_id seat.old.table_id }
     requires idle { seat.old.me.0.role ≡ Idle }
     requires some { seat.old.me.0.lowest < seat.old.me.0.end }
     ensures same { IsSameSeat seat.old seat.new }
-    ensures ticket { (k : ℕ) × IsTicketOf k result × (seat.new.me ≡ waiting T.number T.entries T.start k seat.old.me) }
+    ensures got { result ≡ true → (x : T) × GotTurn T.number T.entries T.start seat.old.me seat.new.me x }
+    ensures missed { result ≡ false → seat.new.me ≡ seat.old.me }
 {
-    table.fetch_add::<TakeTicket>(seat, 0, 1)
+    table.compare_exchange::<Take>(seat, 0, 0, 1) == 0
 }
 
-/// Waits for the turn of the ticket.
-fn await_turn<T: Journaled, R: Wait>(
-    rt: &R,
-    table: &GateTable<T>,
-    seat: &mut TableSeat<T>,
-    ticket: u64,
-)
+/// The same, and says that somebody may sleep from now on.
+fn take_or_tell<T: Journaled>(table: &GateTable<T>, seat: &mut TableSeat<T>) -> bool
     requires table { IsGateTable table.now.table_id seat.old.table_id }
-    requires waits { (k : ℕ) × IsTicketOf k ticket × (seat.old.me.0.role ≡ Waiting k) }
+    requires idle { seat.old.me.0.role ≡ Idle }
     requires some { seat.old.me.0.lowest < seat.old.me.0.end }
     ensures same { IsSameSeat seat.old seat.new }
-    ensures got { (k : ℕ) × (x : T) × GotTurn T.number T.entries T.start seat.old.me k seat.new.me x }
+    ensures got { result ≡ true → (x : T) × GotTurn T.number T.entries T.start seat.old.me seat.new.me x }
+    ensures missed { result ≡ false → seat.new.me ≡ seat.old.me }
 {
+    table.swap::<Take>(seat, 0, 2) == 0
+}
+
+/// Takes the value, if it gets free within some looks.
+fn look_often<T: Journaled>(table: &GateTable<T>, seat: &mut TableSeat<T>) -> bool
+    requires table { IsGateTable table.now.table_id seat.old.table_id }
+    requires idle { seat.old.me.0.role ≡ Idle }
+    requires some { seat.old.me.0.lowest < seat.old.me.0.end }
+    ensures same { IsSameSeat seat.old seat.new }
+    ensures got { result ≡ true → (x : T) × GotTurn T.number T.entries T.start seat.old.me seat.new.me x }
+    ensures missed { result ≡ false → seat.new.me ≡ seat.old.me }
+{
+    for _ in 0..LOOKS {
+        if table.peek(0) == 0 && try_take(table, seat) {
+            return true;
+        }
+    }
+    false
+}
+
+/// Waits for the value.
+fn await_turn<T: Journaled, R: Wait>(rt: &R, table: &GateTable<T>, seat: &mut TableSeat<T>)
+    requires table { IsGateTable table.now.table_id seat.old.table_id }
+    requires idle { seat.old.me.0.role ≡ Idle }
+    requires some { seat.old.me.0.lowest < seat.old.me.0.end }
+    ensures same { IsSameSeat seat.old seat.new }
+    ensures got { (x : T) × GotTurn T.number T.entries T.start seat.old.me seat.new.me x }
+{
+    if look_often(table, seat) {
+        return;
+    }
     for _ in rt.forever() {
-        let served = table.load::<LookAtServed>(seat, 1);
-        if served == ticket {
+        if take_or_tell(table, seat) {
             return;
         }
-        table.park(rt, 1, (served & 0xffff_ffff) as u32);
+        table.park(rt, 0, 2);
     }
     unreachable!()
 }
 
-/// Gives the value back, and the next ticket is served. A wake is a call of the system, so none is made where no further
-/// ticket is out: who takes one later finds it served.
-fn serve_next<T: Journaled>(table: &GateTable<T>, seat: &mut TableSeat<T>)
+/// Gives the value back, and wakes one of those who may sleep.
+fn set_free<T: Journaled>(table: &GateTable<T>, seat: &mut TableSeat<T>)
     requires table { IsGateTable table.now.table_id seat.old.table_id }
-    requires done { (k : ℕ) × (x : T) × HasDone T.number T.entries T.start seat.old.me k x }
+    requires done { (x : T) × HasDone T.number T.entries T.start seat.old.me x }
     requires some { seat.old.me.0.lowest < seat.old.me.0.end }
     ensures same { IsSameSeat seat.old seat.new }
     ensures seen { (x : T) → seat.old.me.1 ≡ (0, Some x) ∷ []
-        → seat.new.me ≡ served T.number T.entries T.start x seat.old.me }
+        → seat.new.me ≡ ended T.number T.entries T.start x seat.old.me }
 {
-    let served = table.fetch_add::<ServeNext>(seat, 1, 1);
-    if table.peek(0) != served.wrapping_add(1) {
-        table.wake_all(1);
+    if table.swap::<GiveBack>(seat, 0, 0) == 2 {
+        table.wake_one(0);
     }
 }
 
@@ -69,28 +97,27 @@ pub(crate) fn take_value<T: Journaled, R: Wait>(
     requires table { IsGateTable table.now.table_id seat.old.table_id }
     requires rests { IsResting T.number seat.old }
     ensures same { IsSameSeat seat.old seat.new }
-    ensures holds { (k : ℕ) × (seat.new.me ≡ emptied T.number T.entries T.start k result seat.old.me) }
+    ensures holds { seat.new.me ≡ emptied T.number T.entries T.start result seat.old.me }
     ensures come { HasCome T.number T.entries T.start seat.old.me.0 result }
 {
-    let ticket = take_ticket(table, seat);
-    await_turn(rt, table, seat, ticket);
+    await_turn(rt, table, seat);
     table.exchange(seat, 0, None).unwrap()
 }
 
 /// Gives the value back, and ends the turn.
 pub(crate) fn give_back<T: Journaled>(table: &GateTable<T>, seat: &mut TableSeat<T>, value: T)
     requires table { IsGateTable table.now.table_id seat.old.table_id }
-    requires holds { (k : ℕ) × (seat.old.me.0.role ≡ Holding k) }
+    requires holds { seat.old.me.0.role ≡ Holding }
     requires empty { seat.old.me.1 ≡ (0, None) ∷ [] }
     requires some { seat.old.me.0.lowest < seat.old.me.0.end }
     requires grew { GrewByTurn T.number seat.old.me.0.lowest seat.old.me.0.seen (T.entries value) }
     requires start { Some (T.start value) ≡ seat.old.me.0.start }
     ensures same { IsSameSeat seat.old seat.new }
-    ensures seen { seat.new.me ≡ served T.number T.entries T.start value seat.old.me }
+    ensures seen { seat.new.me ≡ ended T.number T.entries T.start value seat.old.me }
 {
     let left = table.exchange(seat, 0, Some(value));
     let None = left else { unreachable!() };
-    serve_next(table, seat);
+    set_free(table, seat);
 }
 
 /// Joins a seat of the numbers that follow. Of the two lists that were seen the longer one stays.

@@ -12,5 +12,5 @@ new-requires g c =
     let same : t.start x ≡ b = ap t.start (sym c.of.ensures) in
     let items : c.push.new.self.items ≡ Some x ∷ [] = search rules in
     let few : c.args.workers < 2 ^ 64 = search rules in
-    subst (λ (xs : List (Option g.row.T.Denot)). IsGateState t.number t.entries t.start b c.args.workers (opening (0 ∷ 0 ∷ []) xs (first_seat b c.args.workers))) (sym items)
+    subst (λ (xs : List (Option g.row.T.Denot)). IsGateState t.number t.entries t.start b c.args.workers (opening (0 ∷ []) xs (first_seat b c.args.workers))) (sym items)
     (opens t.number t.entries t.start b c.args.workers x c.requires.empty same c.requires.some few)
