@@ -38,6 +38,7 @@ client_status file.Memory = status.Memory
 -- the paths of the files that a command sends to
 abbrev pub files_in : Command → List (List ℕ)
 files_in (command.Replay db to) = map string_bytes to.items
+files_in (command.Run db to) = map string_bytes to.items
 files_in (command.Export id max db to) = map string_bytes to.items
 files_in _ = []
 

@@ -9,7 +9,8 @@ use Rattle.cd_keeper.specs.declared.keeper.Keeper.{Ghosts as KeeperGhosts}
 use Rattle.cd_event.specs.declared.entry.Entry.{Entry}
 use Rattle.cd_command.specs.declared.status.Status.{Status}
 use Rattle.cd_command.specs.StatusText.{code_of, line_of}
-use Rattle.cd_top.specs.Call.{Ends}
+use Rattle.cd_words.specs.Reading.{BeginsWithRun}
+use Rattle.cd_top.specs.Call.{Ends, RunCallEnds}
 use Rattle.cd_command.specs.Printing.{TextEnds}
 
 -- the line of a status went out; where standard error failed, a part of it
@@ -20,6 +21,12 @@ HasSaid e status old new =
 
 module _ (H : List ℕ → Hash256) {S O E K : Type 0} (s : SourceGhosts S) (o : SinkGhosts O) (e : SinkGhosts E) (k : KeeperGhosts K) (X : Type 0)
     {C : Type 0} (got : C → Option (List ℕ)) (steady : C → Bool) where
+  -- the call on threads was made where the first word is `run`, and else the other one
+  abbrev pub CallEnds : List (List ℕ) → S → S → O → O → K → K → List C → List C → List (Entry X) → Status → Type 0
+  CallEnds words i j out out_after kept kept_after clients left journal end =
+      (BeginsWithRun words × RunCallEnds H s o k got steady words i j out out_after kept kept_after clients left journal end)
+      ⊎ ((BeginsWithRun words → ⊥) × Ends H s o k got steady words i j out out_after kept kept_after clients left journal end)
+
   -- the call ended with this status, which is told by the exit status and the line on standard error
   pub record IsRun (words : List (List ℕ)) (i j : S) (out out_after : O) (err err_after : E) (kept : K)
       (clients : List C) (code : ℕ) : Type 0 where
@@ -27,7 +34,7 @@ module _ (H : List ℕ → Hash256) {S O E K : Type 0} (s : SourceGhosts S) (o :
     pub kept_after : K
     pub left : List C
     pub journal : List (Entry X)
-    pub ended : Ends H s o k got steady words i j out out_after kept kept_after clients left journal status
+    pub ended : CallEnds words i j out out_after kept kept_after clients left journal status
     pub coded : code ≡ code_of status
     pub said : HasSaid e status err err_after
 

@@ -11,11 +11,14 @@ use cd_base::{Memory, Sink, Source, write_all};
 use cd_cell::Hash32;
 use cd_fan::{Client, FileFault, SliceClient};
 use cd_keeper::{KeepFault, Keeper};
-use cd_top::{Ended, Status, WordFault, celldb_once};
-use cd_words::{Command, Page, page_of, page_text, read_words};
+use cd_run::NoHoldup;
+use cd_top::{Ended, Status, WordFault, celldb_once, celldb_run};
+use cd_words::{Command, Page, is_run, page_of, page_text, read_words};
 use std::alloc::Global;
 use std::io::ErrorKind;
 use std::process::ExitCode;
+use std::sync::Wait;
+use std::thread::Threads;
 
 /// The words behind the program's name, which comes first.
 pub fn words_behind_name(words: &[String]) -> &[String]
@@ -56,6 +59,7 @@ pub fn status_of_client(fault: FileFault) -> Status
 }
 
 /// The files that words name.
+#[derive(Drop)]
 pub struct Places {
     /// The path of the database.
     pub db: Option<String>,
@@ -72,7 +76,7 @@ fn places_in(alloc: Global, command: Command) -> Places
     match command {
         Command::Zero { db, .. } => Places { db, to },
         Command::Replay { db, to } => Places { db, to },
-        Command::Run { db, .. } => Places { db, to },
+        Command::Run { db, to } => Places { db, to },
         Command::Check { db } => Places { db, to },
         Command::Export { db, to, .. } => Places { db, to },
         Command::Gen { .. } => Places { db: None, to },
@@ -90,8 +94,8 @@ fn no_places(alloc: Global) -> Places
     }
 }
 
-/// The database that words name by `--db`, and the files that a replay or an export names by `--to`. Words that are no command name
-/// none.
+/// The database that words name by `--db`, and the files that a replay, a run or an export names by `--to`. Words that are no
+/// command name none.
 pub fn places_of(alloc: Global, words: &[String]) -> Result<Places, Memory>
     ensures db { IfOk result (λ places.
         IsDatabase (map string_bytes words.now) (option_map string_bytes places.db)) }
@@ -130,8 +134,16 @@ fn show<O: Sink>(alloc: Global, page: Page, out: &mut O) -> Status
 }
 
 /// One run of the program over the objects of the outside, from its words to its exit status. Words that ask for a page
-/// are no call: the page is printed, and nothing else is asked.
-pub fn run<S: Source, O: Sink, E: Sink, K: Keeper, H: Hash32>(
+/// are no call: the page is printed, and nothing else is asked. The runtime makes the threads of the command `run`.
+pub fn run<
+    S: Source,
+    O: Sink,
+    E: Sink,
+    K: Keeper + Send,
+    H: Hash32 + Send + Sync,
+    R: Threads + Wait + Sync,
+>(
+    rt: &R,
     alloc: Global,
     words: &[String],
     input: &mut S,
@@ -150,6 +162,17 @@ pub fn run<S: Source, O: Sink, E: Sink, K: Keeper, H: Hash32>(
 {
     if let Some(page) = page_of(words) {
         return end(show(alloc, page, out), err);
+    }
+    if is_run(words) {
+        let Ended {
+            status,
+            keeper: _,
+            journal: _,
+            clients: _,
+        } = celldb_run::<S, O, K, H, NoHoldup, R>(
+            rt, alloc, words, input, out, keeper, clients, &NoHoldup,
+        );
+        return end(status, err);
     }
     let Ended {
         status,

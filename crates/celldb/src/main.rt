@@ -15,6 +15,8 @@ use cd_keeper_sql::SqlKeeper;
 use cd_top::Status;
 use std::process::ExitCode;
 use std::rt::Env;
+use std::sync::Wait;
+use std::thread::Threads;
 use std::{env, io};
 
 /// All words, the program's name among them.
@@ -26,9 +28,10 @@ fn all_words<R: Env + AllocGlobal>(rt: &R) -> io::Result<Vec<String>> {
     Ok(words)
 }
 
-/// Makes a client over each of these files, and runs. A file that is there is emptied.
-fn run_to<S: Source, O: Sink, E: Sink, K: Keeper>(
+/// Makes a client over each of these files, and runs, on threads where the words ask for it. A file that is there is emptied.
+fn run_to<S: Source, O: Sink, E: Sink, K: Keeper + Send, R: Threads + Wait + Sync>(
     rt: &HostRuntime,
+    threads: &R,
     words: &[String],
     to: &[String],
     input: &mut S,
@@ -51,7 +54,43 @@ fn run_to<S: Source, O: Sink, E: Sink, K: Keeper>(
             return end(Status::Memory, err);
         }
     }
-    run::<_, _, _, _, Sha>(alloc, words, input, out, err, keeper, clients)
+    run::<_, _, _, _, Sha, _>(threads, alloc, words, input, out, err, keeper, clients)
+}
+
+/// Runs over the database file of a path.
+fn run_over_file<S: Source, O: Sink, E: Sink, R: Threads + Wait + Sync>(
+    rt: &HostRuntime,
+    threads: &R,
+    words: &[String],
+    places: &Places,
+    path: &str,
+    input: &mut S,
+    out: &mut O,
+    err: &mut E,
+) -> ExitCode {
+    match SqlKeeper::open(rt, path) {
+        Ok(keeper) => run_to(rt, threads, words, &places.to, input, out, err, keeper),
+        Err(fault) => end(status_of_keeper(fault), err),
+    }
+}
+
+/// Runs over the places that the words name.
+fn run_over<S: Source, O: Sink, E: Sink, R: Threads + Wait + Sync>(
+    rt: &HostRuntime,
+    threads: &R,
+    words: &[String],
+    places: &Places,
+    input: &mut S,
+    out: &mut O,
+    err: &mut E,
+) -> ExitCode {
+    match &places.db {
+        Some(path) => run_over_file(rt, threads, words, places, path.as_str(), input, out, err),
+        None => {
+            let keeper = SteadyKeeper::new(rt.alloc());
+            run_to(rt, threads, words, &places.to, input, out, err, keeper)
+        }
+    }
 }
 
 fn main(rt: HostRuntime) -> ExitCode {
@@ -64,23 +103,9 @@ fn main(rt: HostRuntime) -> ExitCode {
         Err(error) => return end(status_without_words(error.kind()), &mut err),
     };
     let behind = words_behind_name(&words);
-    let Places { db, to } = match places_of(alloc, behind) {
+    let places = match places_of(alloc, behind) {
         Ok(places) => places,
         Err(_) => return end(Status::Memory, &mut err),
     };
-    match db {
-        Some(path) => match SqlKeeper::open(&rt, path.as_str()) {
-            Ok(keeper) => run_to(&rt, behind, &to, &mut input, &mut out, &mut err, keeper),
-            Err(fault) => end(status_of_keeper(fault), &mut err),
-        },
-        None => run_to(
-            &rt,
-            behind,
-            &to,
-            &mut input,
-            &mut out,
-            &mut err,
-            SteadyKeeper::new(alloc),
-        ),
-    }
+    run_over(&rt, &rt, behind, &places, &mut input, &mut out, &mut err)
 }

@@ -8,8 +8,6 @@ none-told : {F : Unit {0} ⊎ ⊥ → Type 0} (got : (v : Unit {0} ⊎ ⊥) → 
 none-told got none (inl u) x = subst (λ o. IfSome o (λ bytes. length bytes ≡ 0)) (sym (none x)) tt
 none-told got none (inr never) x = absurd never
 
-pub run-requires : goal.run-requires
-run-requires g c = record {
-  fresh = λ k d within. let b = get_or c.loop-path.clients.items k d in
-      none-told (λ v x. (own-1.entry v).1.got x) (λ x. refl) b.vtable b.value;
-}
+pub run-requires-clause-fresh : goal.run-requires-clause-fresh
+run-requires-clause-fresh g c κs within = λ k d lt. let b = get_or c.loop-path.clients.items k d in
+    none-told (λ v x. (own-1.entry v).1.got x) (λ x. refl) b.vtable b.value
