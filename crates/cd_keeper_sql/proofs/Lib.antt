@@ -1,2 +1,3 @@
 mod Inside
 mod Steps
+pub mod Crosses
