@@ -25,10 +25,10 @@ fn take_ticket<T: Journaled>(table: &GateTable<T>, seat: &mut TableSeat<T>) -> u
 
 /// How many tickets behind the one that is served are next. Their seats are awake when their turn comes: to wake one takes
 /// longer than a turn.
-const NEXT: u64 = 2;
+const NEXT: u64 = 3;
 
 /// How often a seat that is next looks before it sleeps. It is bounded, for the turn before may be long.
-const LOOKS: u32 = 2000;
+const LOOKS: u32 = 4000;
 
 /// Whether the ticket is served, or will be while its seat looks for it. The one who holds the ticket asks.
 fn is_soon<T: Journaled>(table: &GateTable<T>, ticket: u64) -> bool
