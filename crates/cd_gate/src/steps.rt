@@ -24,11 +24,11 @@ fn take_ticket<T: Journaled>(table: &GateTable<T>, seat: &mut TableSeat<T>) -> u
 }
 
 /// How many tickets behind the one that is served are next. Their seats are awake when their turn comes: to wake one takes
-/// longer than a turn.
-const NEXT: u64 = 2;
+/// longer than a turn. With more of them the turns are fewer where other programs keep processors busy.
+const NEXT: u64 = 1;
 
 /// How often a seat that is next looks before it sleeps. It is bounded, for the turn before may be long.
-const LOOKS: u32 = 2000;
+const LOOKS: u32 = 1000;
 
 /// Whether the ticket is served, or will be while its seat looks for it. The one who holds the ticket asks.
 fn is_soon<T: Journaled>(table: &GateTable<T>, ticket: u64) -> bool
@@ -75,7 +75,7 @@ fn await_turn<T: Journaled, R: Wait>(
 }
 
 /// Gives the value back, and the next ticket is served. Its seat is woken where it sleeps, and so is the one that is now
-/// the last of those who are next.
+/// next.
 fn serve_next<T: Journaled>(table: &GateTable<T>, bells: &Bells, seat: &mut TableSeat<T>)
     requires table { IsGateTable table.now.table_id seat.old.table_id }
     requires done { (k : ℕ) × (x : T) × HasDone T.number T.entries T.start seat.old.me k x }
