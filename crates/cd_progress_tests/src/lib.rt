@@ -1,0 +1,7 @@
+//! Tests of progress lines, beside the crate that they test.
+#![tactic(auto)]
+
+#[cfg(test)]
+mod outside;
+#[cfg(test)]
+mod tests;
