@@ -69,7 +69,7 @@ module _ (H : List ℕ → Hash256) {K O X C : Type 0} (k : KeeperGhosts K) (o :
 
     -- a prefix was sent
     part-of : {E : Type 0} (end : Result Outcome E) → Sent got steady H told clients left end → IsPart H k got steady id journal old new clients left
-    part-of end is = record { leads = leads; part = is.part; steadied = is.steadied; caused = caused }
+    part-of end is = record { leads = leads; part = is.part; steadied = is.steadied; fewer = is.fewer; caused = caused }
 
     module _ (pin : ℕ) (asked : List ℕ) (collected : Bool) (bytes done failed : ℕ) (is : journal ≡ served id pin asked (Some collected)) (long : IfSome told (IsExported H bytes))
         (sends : Sent got steady H {E = Memory} told clients left (Ok (outcome.Serve bytes done failed))) where

@@ -1,5 +1,5 @@
 -- Trusted: how the command `export` ends: what each status says of the output, the clients, the journal and the keeper.
-use Rattle.std.specs.Prelude.{◌≡◌, ◌⊎◌, ℕ, ◌+◌, ◌<◌, Bool, true, List, [], ◌∷◌, ◌++◌, length, count_by, Option, Some, IfSome}
+use Rattle.std.specs.Prelude.{◌≡◌, ◌⊎◌, ℕ, ◌+◌, ◌<◌, ◌≤◌, Bool, true, List, [], ◌∷◌, ◌++◌, length, count_by, Option, Some, IfSome}
 use Rattle.std.specs.Option.{option_map}
 use Rattle.cd_base.specs.declared.hash.Hash256.{Hash256}
 use Rattle.cd_base.specs.declared.sink.Sink.{Ghosts as SinkGhosts}
@@ -76,11 +76,12 @@ module _ (H : List ℕ → Hash256) {K X C : Type 0} (k : KeeperGhosts K) (got :
       pub steadied : count_by steady left ≡ count_by steady clients
       pub steady_keeper : NoFault (k.faults old) (k.faults new)
 
-    -- each client that is left and tells has got a prefix of the bag
+    -- each client that is left and tells has got a prefix of the bag; a steady one is never taken out, and none comes
     pub record IsPart : Type 0 where
       pub leads : LeadsTo H k journal old new
       pub part : IfSome (state_of leads) (λ t. HaveGotPart got (bag_of H t) left)
       pub steadied : count_by steady left ≡ count_by steady clients
+      pub fewer : length left ≤ length clients
       pub caused : RisesOnly (has_failed journal) (k.faults old) (k.faults new)
 
     -- the state has more cells than a bag may have

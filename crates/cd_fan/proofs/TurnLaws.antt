@@ -63,6 +63,7 @@ module _ {C : Type 0} (old : List C) (told : C → Option (List ℕ)) (steady : 
     pub waiting : (k : ℕ) (d : C) → at ≤ k → k < length clients → IfSome (told (get_or clients k d)) (λ bytes. length bytes ≡ offset)
     pub sent : (sent : List ℕ) → HaveGot told sent old → IsSplit (λ c. IfSome (told c) (λ bytes. bytes ≡ sent ++ piece)) (λ c. IfSome (told c) (λ bytes. bytes ≡ sent)) at clients
     pub steadied : count_by steady clients ≡ count_by steady old
+    pub fewer : length clients ≤ length old
 
   -- the same turn, told of equal lists
   pub turn-same : (offset : ℕ) (piece : List ℕ) (before ends ends' : List ClientEnd) (i at at' : ℕ) (clients clients' : List C) → ends' ≡ ends → at' ≡ at → clients' ≡ clients
@@ -81,6 +82,7 @@ module _ {C : Type 0} (old : List C) (told : C → Option (List ℕ)) (steady : 
     waiting = λ k d low high. got k d high;
     sent = λ sent have. record { front = λ k d low. absurd (omega arith); back = λ k d low high. have k d high };
     steadied = refl;
+    fewer = omega arith;
   }
 
   module _ (offset : ℕ) (piece : List ℕ) (before ends : List ClientEnd) (i at : ℕ) (clients : List C) (is : IsTurn offset piece before ends i at clients) (in' : i < length ends) (d : ClientEnd) where
@@ -98,6 +100,7 @@ module _ {C : Type 0} (old : List C) (told : C → Option (List ℕ)) (steady : 
       waiting = is.waiting;
       sent = is.sent;
       steadied = is.steadied;
+      fewer = is.fewer;
     }
 
     module _ (left : is_done (get_or ends i d) ≡ true) where
@@ -130,6 +133,7 @@ module _ {C : Type 0} (old : List C) (told : C → Option (List ℕ)) (steady : 
                 split-taken (λ c. IfSome (told c) (λ bytes. bytes ≡ sent ++ piece)) (λ c. IfSome (told c) (λ bytes. bytes ≡ sent)) at clients new turn-there
                 (got-more sent piece (told was) (told new) got (subst (λ (x : C). IfSome (told x) (λ bytes. bytes ≡ sent)) found (split.back at new (omega arith) turn-there))) split;
             steadied = same-count (sum_by-set (λ (c : C). cond (steady c) 1 0) clients at new new turn-there) (ap bit same ∙ sym (ap (λ (c : C). bit (steady c)) found)) ∙ is.steadied;
+            fewer = omega (arith, long, is.fewer);
           }
         where
           same-count : {a b x y : ℕ} → a + x ≡ b + y → y ≡ x → a ≡ b
@@ -179,6 +183,7 @@ module _ {C : Type 0} (old : List C) (told : C → Option (List ℕ)) (steady : 
                 (ap (λ (b : Bool). cond b 1 0) shaky)
                 (ap (λ (c : C). cond (steady c) 1 0) found ∙ ap (λ (b : Bool). cond b 1 0) shaky-was)
                 ∙ is.steadied;
+            fewer = omega (arith, gone, long, is.fewer);
           }
         where
           not_true : (b : Bool) → (b ≡ true → ⊥) → b ≡ false

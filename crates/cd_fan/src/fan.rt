@@ -42,10 +42,11 @@ pub fn fan_out<L: LookUp>(
     ensures part { (t : Tree) → L.tree look.old ≡ Some t → IsPlanOfTree L.Hash.digest_of t export.now
         → HaveGotPart (λ c. got c) (bag_of L.Hash.digest_of t) clients.new.items }
 
-    // How it ended for each. A steady client is never taken out.
+    // How it ended for each. A steady client is never taken out, and none comes.
     ensures ends { IfOk result (λ ends.
         AreEnds (text_len export.now) max (length clients.old.items) (length clients.new.items) ends.items) }
     ensures steady { count_by (λ c. steady c) clients.new.items ≡ count_by (λ c. steady c) clients.old.items }
+    ensures fewer { length clients.new.items ≤ length clients.old.items }
 
     // What lies between two states of the look.
     ensures hands_on { HandsOn L.goes L.fails (is_fan_failed result) look.old look.new }
@@ -74,6 +75,7 @@ fn serve(clients: &mut Vec<Client>, ends: &mut [ClientEnd], offset: u64, piece: 
         → HaveGot (λ c. got c) (sent ++ bytes_of piece.entry) clients.new.items }
     ensures ends { IsServed offset ends.old ends.new (length clients.new.items) }
     ensures steady { count_by (λ c. steady c) clients.new.items ≡ count_by (λ c. steady c) clients.old.items }
+    ensures fewer { length clients.new.items ≤ length clients.old.items }
 {
     let mut at = 0;
     for end in ends {

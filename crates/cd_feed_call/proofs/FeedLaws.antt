@@ -1,5 +1,5 @@
 -- A feed that was done over a core, and what was told of it, row by row of the table.
-use Rattle.std.proofs.Common.{◌≡◌, inl, inr, ℕ, Bool, true, false, ◌||◌, cond, ◌+◌, ◌-◌, ◌^◌, ◌≤◌, List, [], ◌∷◌, ◌++◌, length, All, Option, Some, refl, sym, ap, subst, ◌∙◌, arith}
+use Rattle.std.proofs.Common.{◌≡◌, ◌≢◌, inl, inr, ⊎_elim, ℕ, Bool, true, false, ◌||◌, cond, ◌+◌, ◌-◌, ◌^◌, ◌<◌, ◌≤◌, List, [], ◌∷◌, ◌++◌, length, All, Option, Some, refl, sym, ap, subst, ◌∙◌, arith}
 use Rattle.std.specs.Prelude.{min, Result, Ok, Err, IfOk, OnErr}
 use Rattle.std.specs.List.{list_any}
 use Rattle.std.proofs.Math.Dec.{eqb}
@@ -15,6 +15,7 @@ use Rattle.cd_world.specs.declared.world.Totals.{Totals}
 use Rattle.cd_core.specs.declared.start.CoreStart.{CoreStart}
 use Rattle.cd_core.specs.Cores.{CoreView, failures}
 use Rattle.cd_core.specs.Effects.{AreTotals}
+use Rattle.cd_core.specs.Workers.{named_by}
 use Rattle.cd_feed.specs.declared.feed.Feed.{Feed}
 use Rattle.cd_run.specs.declared.outcome.Outcome.{Outcome}
 use Rattle.cd_run.specs.ReportText.{report_text}
@@ -23,7 +24,7 @@ use Rattle.cd_run.specs.Runs.{has_failed}
 use Rattle.cd_run.proofs.CoverLaws.{covers-cut}
 use Rattle.cd_run.proofs.EarlyLaws.{covers_prefix-cut}
 use Rattle.cd_lanes.specs.Lanes.{AreUnserved}
-use Rattle.cd_lanes.specs.Left.{LeftByOne, PhaseServed}
+use Rattle.cd_lanes.specs.Left.{IsOneOf, LeftByOne, PhaseServed}
 use Rattle.cd_lanes.specs.Phases.{PhasesRun}
 use Rattle.cd_replay.specs.Ran.{FeedDone, FeedStopped, pins_in}
 use Rattle.cd_lanes.proofs.PhaseRuns.{cut_of_phases}
@@ -32,6 +33,10 @@ use Rattle.cd_command.specs.declared.status.Status.TheVariants as status
 use Rattle.cd_command.specs.Printing.{NoFault, PrintingEnds, HasGot, HasFailed}
 use Rattle.cd_feed_call.specs.Telling.{IsTold, IsUntotalled, status_by}
 use Rattle.cd_feed_call.specs.Told.{Counts, NotFallen, AreDone, AreBegun, IsReported, IsWritten, FeedEnds}
+
+-- what is at most a number, and not that number, is below it
+less : (a b : ℕ) → a ≤ b → a ≢ b → a < b
+less a b = grind arith
 
 -- an entry was failed where any was
 pub failed-any : {X : Type 0} (journal : List (Entry X)) → list_any (λ e. is_keeper (Some e.reply)) journal ≡ has_failed journal
@@ -140,6 +145,11 @@ module _ (H : List ℕ → Hash256) {K X C O : Type 0} (held : K → Option Cont
     reported : (Is : List ℕ → O → O → Type 0) → Is text out out_after → IsReported H held got steady start journal feed clients left o out out_after Is
     reported Is told = record { ends = ends; totals = totals; done = done; are = are; told = subst (λ t. Is t out out_after) is told }
 
+    -- no client came
+    few-left : length left ≤ length clients
+    few-left = ⊎_elim (λ (same : (left ≡ clients) × All (All AreUnserved) ends). let long = ap length same.0 in omega (arith, long))
+        (λ (s : IsOneOf (PhaseServed got steady H (λ worker. named_by H held worker start journal)) feed.phases ends clients left). s.is.is.sent.fewer) done.served
+
     written : (end : Status) → PrintingEnds o text out out_after end
         → IsReported H held got steady start journal feed clients left o out out_after (IsWritten o)
     written status.Ok told = reported (IsWritten o) (inl told)
@@ -158,7 +168,7 @@ module _ (H : List ℕ → Hash256) {K X C O : Type 0} (held : K → Option Cont
         → FeedEnds H held got steady start journal feed clients left o out out_after Stands before now (status_by failed all_left end)
     told-ends true all_left fails same end told = (subst (λ n. Rose before n) (sym stood) (caused.rose (sym fails)), inl (written end told, sym fails))
     told-ends false false fails same end told =
-        (written end told, sym fails, eqb-false (length left) (length clients) (sym same), subst (Stands before) (sym stood) (caused.steady (sym fails)))
+        (written end told, sym fails, less (length left) (length clients) few-left (eqb-false (length left) (length clients) (sym same)), subst (Stands before) (sym stood) (caused.steady (sym fails)))
     told-ends false true fails same status.Ok told =
         (reported (HasGot o) told, sym fails, eqb-true (length left) (length clients) (sym same), subst (Stands before) (sym stood) (caused.steady (sym fails)))
     told-ends false true fails same status.WriteFault told =

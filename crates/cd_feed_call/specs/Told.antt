@@ -1,5 +1,5 @@
 -- Trusted: a feed whose tasks were done over a store, and what was told of them.
-use Rattle.std.specs.Prelude.{◌≡◌, ◌≢◌, ◌⊎◌, ℕ, ◌-◌, ◌^◌, ◌≤◌, min, Bool, true, false, List, [], length, All, Option}
+use Rattle.std.specs.Prelude.{◌≡◌, ◌⊎◌, ℕ, ◌-◌, ◌^◌, ◌<◌, ◌≤◌, min, Bool, true, false, List, [], length, All, Option}
 use Rattle.cd_base.specs.declared.hash.Hash256.{Hash256}
 use Rattle.cd_base.specs.declared.sink.Sink.{Ghosts as SinkGhosts}
 use Rattle.cd_base.specs.Counts.{Rose}
@@ -84,7 +84,7 @@ module _ (H : List ℕ → Hash256) {K X C : Type 0} (held : K → Option Conten
         × (has_failed journal ≡ false) × (length left ≡ length clients) × Stands before now
     -- a client failed, and is gone: done and told
     FeedEnds Stands before now status.ClientFault = IsReported (IsWritten o)
-        × (has_failed journal ≡ false) × (length left ≢ length clients) × Stands before now
+        × (has_failed journal ≡ false) × (length left < length clients) × Stands before now
     -- the keeper failed an entry, and all was done and told; or it failed at the totals, and nothing was told
     FeedEnds Stands before now status.KeeperFault = Rose before now
         × ((IsReported (IsWritten o) × (has_failed journal ≡ true))

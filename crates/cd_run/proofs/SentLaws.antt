@@ -88,6 +88,7 @@ module _ {C : Type 0} (got : C → Option (List ℕ)) (steady : C → Bool) (dig
     numbers = λ bytes done failed is. absurd (never bytes done failed is);
     kept = λ why is other. refl;
     steadied = refl;
+    fewer = omega arith;
   }
 
 module _ {C : Type 0} (got : C → Option (List ℕ)) (steady : C → Bool) (digest : List ℕ → Hash256) (told : Option Tree) (old new : List C) where
@@ -100,4 +101,5 @@ module _ {C : Type 0} (got : C → Option (List ℕ)) (steady : C → Bool) (dig
     numbers = λ b d f is. sent.numbers b d f (same_serve who pin work es result by b d f is);
     kept = λ why is other. sent.kept why (same_refused who pin work es result by why is other) other;
     steadied = sent.steadied;
+    fewer = sent.fewer;
   }

@@ -1,5 +1,5 @@
 -- Trusted: what a task leaves of the clients that it is handed.
-use Rattle.std.specs.Prelude.{◌≡◌, ◌≢◌, ◌⊎◌, ℕ, ◌+◌, Bool, List, length, count_by, Option, Some, IfSome, Result, Ok}
+use Rattle.std.specs.Prelude.{◌≡◌, ◌≢◌, ◌⊎◌, ℕ, ◌+◌, ◌≤◌, Bool, List, length, count_by, Option, Some, IfSome, Result, Ok}
 use Rattle.cd_base.specs.declared.answers.Memory.{Memory}
 use Rattle.cd_base.specs.declared.hash.Hash256.{Hash256}
 use Rattle.cd_boc_write.specs.Exports.{bag_of}
@@ -37,6 +37,8 @@ module _ {C : Type 0} (got : C → Option (List ℕ)) (steady : C → Bool) (dig
     pub kept : (why : TaskRefusal) → result ≡ Ok (outcome.Refused why) → why ≢ word.Keeper → new ≡ old
     -- a steady client is never taken out
     pub steadied : count_by steady new ≡ count_by steady old
+    -- and none comes
+    pub fewer : length new ≤ length old
 
   -- what a serve leaves, by its worker's pins behind it: what it sent under its pin, or else what they were; so they are
   -- where it got no pin, and never where it ended well

@@ -40,6 +40,7 @@ loop-offset-preserved g c =
       each = subst (All (IsEnd c.len-len.result c.args.max)) (sym ends)
           (ends-served c.len-len.result c.args.max offset _ c.deref_mut.result.now c.serve.new.ends (inr (low, kept.step low)) served (subst (All (IsEnd c.len-len.result c.args.max)) (sym c.deref_mut.ensures.value) kept.each));
       steadied = c.serve.ensures.steady ∙ kept.steadied;
+      fewer = omega (arith, c.serve.ensures.fewer, kept.fewer);
       went = g.met.L.LookUp.further _ _ _ kept.went c.in_ok-piece.ensures.hands_on;
       faults = c.in_ok-piece.ensures.faults.steady refl ∙ kept.faults;
     }

@@ -22,6 +22,7 @@ invariant-loop-offset g l =
       count : length l.ends.items ≡ length l.fn.clients.items;
       each : All (IsEnd l.len l.max) l.ends.items;
       steadied : count_by (λ b. (goal.SliceClient-dyn g (b.vtable, b.value)).steady b.value) l.clients.items ≡ count_by (λ b. (goal.SliceClient-dyn g (b.vtable, b.value)).steady b.value) l.fn.clients.items;
+      fewer : length l.clients.items ≤ length l.fn.clients.items;
       went : look.goes l.fn.look l.look;
       faults : look.faults l.look ≡ look.faults l.fn.look;
     }

@@ -62,3 +62,6 @@ returns-clause-ends g c = turn-served _ _ _ _ _ _ _ _ _ _ c.loop-end.invariant (
 
 pub returns-clause-steady : goal.returns-clause-steady
 returns-clause-steady g c = c.loop-end.invariant.steadied
+
+pub returns-clause-fewer : goal.returns-clause-fewer
+returns-clause-fewer g c = c.loop-end.invariant.fewer
