@@ -15,7 +15,7 @@ use Rattle.cd_gate.specs.declared.seat_state.SeatState.{SeatState}
 use Rattle.std.specs.Prelude.{All, slice_index_or}
 use Rattle.std.proofs.lemmas.List.Elements.{All-nil, All-head}
 use Rattle.cd_gate.specs.Histories.{GrewByOthers, GrewByTurn, longer}
-use Rattle.cd_gate.specs.TurnRule.{Each, Once, IsTicket, IsHolding, tickets, HasTicket, HasNumber, tickets_of, width, spent_seat, first_seat, below_cut, from_cut, joined_ranges, FitsRole, IsSeated, IsSpentOrSeated, HasSlot, IsGateState, TakesTicket, LooksAtServed, ServesNext, KeepsLonger}
+use Rattle.cd_gate.specs.TurnRule.{Once, IsTicket, IsHolding, tickets, HasTicket, HasNumber, tickets_of, width, spent_seat, first_seat, below_cut, from_cut, joined_ranges, FitsRole, IsSeated, IsSpentOrSeated, HasSlot, IsGateState, TakesTicket, LooksAtServed, ServesNext, KeepsLonger}
 use Rattle.cd_gate.proofs.Entries.{All-push, All-front, All-back, begins_longer}
 use Rattle.cd_gate.proofs.Lists.{total_set, total_push, total_le, each_set, each_push, each_none, at_inside, at_longer, set_swap, once_set, once_less, once_push}
 

@@ -4,6 +4,7 @@ ghost use Rattle.cd_gate.specs.declared.seat_state.Role.TheVariants.{Idle};
 ghost use Rattle.cd_gate.specs.Histories.{GrewByOthers, GrewByTurn, longer};
 ghost use Rattle.cd_gate.specs.Gates.{IsGateTable, IsSameSeat, IsSeatOf, IsFirstSeat, IsWholeSeat, MayPrecede, below_part, upper_part, joined_seat};
 
+use crate::bells::Bells;
 use crate::journaled::{Deed, Journaled};
 use crate::plays::{SplitAt, SplitPoint};
 use crate::rule::{GateTable, Origin, OwnTable, TableSeat};
@@ -19,6 +20,7 @@ use std::sync::Wait;
 /// how many workers' numbers it has.
 pub struct Gate<T: Journaled> {
     table: OwnTable<T>,
+    bells: Bells,
 }
 
 impl<T: Journaled> Model for Gate<T> {
@@ -82,6 +84,9 @@ impl<T: Journaled> Gate<T> {
         ensures seat { IfOk result (λ made. IsFirstSeat made.0 made.1) }
         ensures kept { IfErr result (λ back. back.0 ≡ value) }
     {
+        let Ok(bells) = Bells::new(alloc) else {
+            return Err((value, Memory));
+        };
         let origin = Origin {
             first: Snapshot::of(&value),
             workers,
@@ -93,7 +98,7 @@ impl<T: Journaled> Gate<T> {
             return Err((value.unwrap(), Memory));
         }
         match Table::new(alloc, &[0, 0], slots, &origin) {
-            Ok((table, seat)) => Ok((Gate { table }, GateSeat { seat })),
+            Ok((table, seat)) => Ok((Gate { table, bells }, GateSeat { seat })),
             Err(Refused { mut slots }) => {
                 let value = slots.pop().unwrap();
                 slots.destroy_empty();
@@ -137,7 +142,7 @@ impl<T: Journaled> Gate<T> {
         ensures entries { T.entries result ≡ seat.seen }
         ensures start { T.start result ≡ self.start }
     {
-        let Gate { table } = self;
+        let Gate { table, bells: _ } = self;
         let GateSeat { seat: taken } = seat;
         close(table, taken)
     }
@@ -160,9 +165,9 @@ impl<T: Journaled> Gate<T> {
             × D.did deed self.now.start before result seat.new.seen }
     {
         let table = &self.table.shared;
-        let mut value = take_value(rt, table, &mut seat.seat);
+        let mut value = take_value(rt, table, &self.bells, &mut seat.seat);
         let answer = deed.act(&mut value);
-        give_back(table, &mut seat.seat, value);
+        give_back(table, &self.bells, &mut seat.seat, value);
         answer
     }
 }

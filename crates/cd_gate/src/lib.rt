@@ -2,6 +2,7 @@
 //! turns.
 #![tactic(auto)]
 
+mod bells;
 mod gate;
 mod journaled;
 mod plays;

@@ -1,13 +1,15 @@
 //! What seats do at the table: a turn, in which the value is taken and given back, and the joining of two seats.
 ghost use Rattle.std.specs.Prelude.{◌≡◌, ℕ, ◌<◌, [], ◌∷◌, Some, None};
 ghost use Rattle.cd_gate.specs.declared.seat_state.Role.TheVariants.{Idle, Waiting, Holding};
-ghost use Rattle.cd_gate.specs.Gates.{IsGateTable, IsSameSeat, IsResting};
+ghost use Rattle.cd_gate.specs.Gates.{IsGateTable, IsSized, IsSameSeat, IsResting};
 ghost use Rattle.cd_gate.specs.Histories.{GrewByOthers, GrewByTurn};
 ghost use Rattle.cd_gate.specs.TurnRule.{IsTicketOf, HasCome, GotTurn, HasDone, waiting, emptied, served, grown_seat};
 
+use crate::bells::Bells;
 use crate::journaled::Journaled;
 use crate::plays::{JoinRanges, KeepLonger, LookAtServed, ServeNext, TakeTicket};
 use crate::rule::{GateTable, OwnTable, TableSeat};
+use std::hint::spin_loop;
 use std::sync::Wait;
 
 /// The ticket of the seat's next turn.
@@ -21,10 +23,35 @@ fn take_ticket<T: Journaled>(table: &GateTable<T>, seat: &mut TableSeat<T>) -> u
     table.fetch_add::<TakeTicket>(seat, 0, 1)
 }
 
-/// Waits for the turn of the ticket.
+/// How many tickets behind the one that is served are next. Their seats are awake when their turn comes: to wake one takes
+/// longer than a turn.
+const NEXT: u64 = 3;
+
+/// How often a seat that is next looks before it sleeps. It is bounded, for the turn before may be long.
+const LOOKS: u32 = 4000;
+
+/// Whether the ticket is served, or will be while its seat looks for it. The one who holds the ticket asks.
+fn is_soon<T: Journaled>(table: &GateTable<T>, ticket: u64) -> bool
+    requires table { IsSized table.now.table_id }
+{
+    for _ in 0..LOOKS {
+        let ahead = ticket.wrapping_sub(table.peek(1));
+        if ahead == 0 {
+            return true;
+        }
+        if ahead > NEXT {
+            return false;
+        }
+        spin_loop();
+    }
+    false
+}
+
+/// Waits for the turn of the ticket. Who isn't next sleeps at once, and who is next soon.
 fn await_turn<T: Journaled, R: Wait>(
     rt: &R,
     table: &GateTable<T>,
+    bells: &Bells,
     seat: &mut TableSeat<T>,
     ticket: u64,
 )
@@ -35,17 +62,21 @@ fn await_turn<T: Journaled, R: Wait>(
     ensures got { (k : ℕ) × (x : T) × GotTurn T.number T.entries T.start seat.old.me k seat.new.me x }
 {
     for _ in rt.forever() {
+        if !is_soon(table, ticket) {
+            bells.await_ring(ticket);
+        }
         let served = table.load::<LookAtServed>(seat, 1);
         if served == ticket {
             return;
         }
-        table.park(rt, 1, (served & 0xffff_ffff) as u32);
+        bells.sleep(rt, ticket);
     }
     unreachable!()
 }
 
-/// Gives the value back, and the next ticket is served.
-fn serve_next<T: Journaled>(table: &GateTable<T>, seat: &mut TableSeat<T>)
+/// Gives the value back, and the next ticket is served. Its seat is woken where it sleeps, and so is the one that is now
+/// the last of those who are next.
+fn serve_next<T: Journaled>(table: &GateTable<T>, bells: &Bells, seat: &mut TableSeat<T>)
     requires table { IsGateTable table.now.table_id seat.old.table_id }
     requires done { (k : ℕ) × (x : T) × HasDone T.number T.entries T.start seat.old.me k x }
     requires some { seat.old.me.0.lowest < seat.old.me.0.end }
@@ -53,14 +84,16 @@ fn serve_next<T: Journaled>(table: &GateTable<T>, seat: &mut TableSeat<T>)
     ensures seen { (x : T) → seat.old.me.1 ≡ (0, Some x) ∷ []
         → seat.new.me ≡ served T.number T.entries T.start x seat.old.me }
 {
-    table.fetch_add::<ServeNext>(seat, 1, 1);
-    table.wake_all(1);
+    let next = table.fetch_add::<ServeNext>(seat, 1, 1).wrapping_add(1);
+    bells.ring(next);
+    bells.ring(next.wrapping_add(NEXT));
 }
 
 /// Waits for a turn of the seat, and takes the value out.
 pub(crate) fn take_value<T: Journaled, R: Wait>(
     rt: &R,
     table: &GateTable<T>,
+    bells: &Bells,
     seat: &mut TableSeat<T>,
 ) -> T
     requires table { IsGateTable table.now.table_id seat.old.table_id }
@@ -70,12 +103,17 @@ pub(crate) fn take_value<T: Journaled, R: Wait>(
     ensures come { HasCome T.number T.entries T.start seat.old.me.0 result }
 {
     let ticket = take_ticket(table, seat);
-    await_turn(rt, table, seat, ticket);
+    await_turn(rt, table, bells, seat, ticket);
     table.exchange(seat, 0, None).unwrap()
 }
 
 /// Gives the value back, and ends the turn.
-pub(crate) fn give_back<T: Journaled>(table: &GateTable<T>, seat: &mut TableSeat<T>, value: T)
+pub(crate) fn give_back<T: Journaled>(
+    table: &GateTable<T>,
+    bells: &Bells,
+    seat: &mut TableSeat<T>,
+    value: T,
+)
     requires table { IsGateTable table.now.table_id seat.old.table_id }
     requires holds { (k : ℕ) × (seat.old.me.0.role ≡ Holding k) }
     requires empty { seat.old.me.1 ≡ (0, None) ∷ [] }
@@ -87,7 +125,7 @@ pub(crate) fn give_back<T: Journaled>(table: &GateTable<T>, seat: &mut TableSeat
 {
     let left = table.exchange(seat, 0, Some(value));
     let None = left else { unreachable!() };
-    serve_next(table, seat);
+    serve_next(table, bells, seat);
 }
 
 /// Joins a seat of the numbers that follow. Of the two lists that were seen the longer one stays.

@@ -1,4 +1,4 @@
-use Rattle.std.proofs.Common.{rules, ◌≡◌, ◌<◌, Option, ap, sym, ◌∙◌, subst, unwrap_or, IsSome, arith}
+use Rattle.std.proofs.Common.{rules, ◌<◌, Option, ap, sym, ◌∙◌, subst, unwrap_or, IsSome, arith}
 use Rattle.cd_gate.proofs.Keeps.{closed_value}
 use Rattle.cd_gate.proofs.steps.close.Goals as goal
 

@@ -2,8 +2,8 @@ use Rattle.std.proofs.Common.{rules}
 use Rattle.cd_gate.proofs.Keeps.{serves_next}
 use Rattle.cd_gate.proofs.steps.serve_next.Goals as goal
 
-pub fetch_add-requires : goal.fetch_add-requires
-fetch_add-requires g c =
+pub fetch_add-next-requires : goal.fetch_add-next-requires
+fetch_add-next-requires g c =
     let t = g.T.Journaled in
     let key = c.args.table.now.key in
     let h = c.requires.done in

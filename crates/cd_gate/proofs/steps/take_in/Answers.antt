@@ -1,4 +1,4 @@
-use Rattle.std.proofs.Common.{rules, ◌≡◌, ◌<◌, ap, sym, subst, arith}
+use Rattle.std.proofs.Common.{rules, ◌<◌, ap, sym, subst, arith}
 use Rattle.cd_gate.proofs.Keeps.{joins_pair, settles_longer}
 use Rattle.cd_gate.proofs.Turning.{grown_is, grown_mine, grown_theirs}
 use Rattle.cd_gate.proofs.steps.take_in.Goals as goal

@@ -1,4 +1,4 @@
-use Rattle.std.proofs.Common.{rules, ◌≡◌, ◌∷◌, Some, ap, sym, ◌∙◌}
+use Rattle.std.proofs.Common.{rules, ◌∷◌, Some, ap, sym, ◌∙◌}
 use Rattle.atomic_table.specs.Table.{rest}
 use Rattle.cd_gate.proofs.Turning.{got_is}
 use Rattle.cd_gate.proofs.steps.take_value.Goals as goal

@@ -4,8 +4,8 @@ use Rattle.cd_gate.specs.TurnRule.{IsGateState, first_seat}
 use Rattle.cd_gate.proofs.Keeps.{opens}
 use Rattle.cd_gate.proofs.gate.Gate.new.Goals as goal
 
-pub new-requires : goal.new-requires
-new-requires g c =
+pub new-requires-2 : goal.new-requires-2
+new-requires-2 g c =
     let t = g.T.Journaled in
     let x = c.args.value in
     let b = t.start c.of.result.value in
