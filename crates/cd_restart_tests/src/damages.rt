@@ -1,25 +1,9 @@
 //! What damages a store, and what is told of it. All hashes are weak ones, by their last bytes: a cell's bytes, summed up
 //! modulo 256.
 
-use crate::stores::{block_id, record, weak, zero_state};
-use cd_keeper::SteadyKeeper;
+use crate::stores::{Put, key_of, weak};
 use cd_record::RecordFault;
 use cd_restart::ScanFault;
-use std::alloc::Global;
-use std::test::Fail;
-
-/// What is put into a store.
-#[derive(Clone, Copy)]
-pub(crate) enum Put {
-    /// A record: its hash, its count, descriptors and data, and its children with their depths.
-    Cell(u8, u8, &'static [u8], &'static [(u8, u8)]),
-    /// Any bytes in place of a record.
-    Record(u8, &'static [u8]),
-    /// A state without parents: the root and the seqno in its name, and the root and the depth that are described.
-    State((u8, u32), (u8, u16)),
-    /// Any bytes in place of the description of the zero state with this root.
-    Desc(u8, &'static [u8]),
-}
 
 /// The refusal that is due. Blocks are named by their roots.
 #[derive(Clone, Copy)]
@@ -102,7 +86,14 @@ const PRUNED: [u8; 38] = [
     0, 0, 0, 0, 0, 4, 0, 0,
 ];
 
-/// Further causes, in a store of two cells: a block of seqno 1 without parents, and a root of another mask.
+/// A state of two cells, the root w(04) over the leaf w(03).
+pub(crate) const TWO_CELLS: [Put; 3] = [
+    Put::Cell(3, 1, &[0, 2, 1], &[]),
+    Put::Cell(4, 1, &[1, 0], &[(3, 0)]),
+    Put::State((4, 0), (4, 1)),
+];
+
+/// Further causes: a block of seqno 1 without parents, and a root of another mask.
 pub(crate) const MORE: [Damage; 2] = [
     Damage(&[Put::State((4, 1), (4, 1))], Due::Lineage(4, 1)),
     Damage(
@@ -120,44 +111,15 @@ pub(crate) const ALONE: [Damage; 2] = [
     Damage(&[Put::Cell(3, 1, &[0, 2, 1], &[])], Due::Count(3, 1, 0)),
 ];
 
-/// Puts all of it into a store.
-pub(crate) fn put_all(
-    alloc: Global,
-    keeper: &mut SteadyKeeper,
-    damage: &Damage,
-) -> Result<(), Fail> {
-    for put in damage.0 {
-        match *put {
-            Put::Cell(hash, count, face, kids) => {
-                keeper.put_raw_cell(weak(hash), record(alloc, count, face, kids)?)?
-            }
-            Put::Record(hash, bytes) => keeper.put_raw_cell(weak(hash), bytes.to_vec(alloc)?)?,
-            Put::State(name, root) => {
-                let key = key_of(name.0, name.1);
-                keeper.put_raw_desc(key, zero_state(alloc, weak(root.0), root.1)?)?
-            }
-            Put::Desc(root, bytes) => {
-                keeper.put_raw_desc(key_of(root, 0), bytes.to_vec(alloc)?)?
-            }
-        }
-    }
-    Ok(())
-}
-
-/// The key of a block.
-fn key_of(root: u8, seqno: u32) -> [u8; 80] {
-    block_id(weak(root), seqno).to_key()
-}
-
 impl Due {
     /// The fault that a scan tells.
     pub(crate) fn fault(&self) -> ScanFault {
         match *self {
             Due::Desc(root) => ScanFault::Desc {
-                key: key_of(root, 0),
+                key: key_of(weak(root), 0),
             },
             Due::Lineage(root, seqno) => ScanFault::Lineage {
-                key: key_of(root, seqno),
+                key: key_of(weak(root), seqno),
             },
             Due::Record(hash, value) => ScanFault::Record {
                 hash: weak(hash),
@@ -176,11 +138,11 @@ impl Due {
                 child: weak(child),
             },
             Due::RootMissing(root) => ScanFault::RootMissing {
-                key: key_of(root, 0),
+                key: key_of(weak(root), 0),
                 root: weak(root),
             },
             Due::RootDepth(root, stated, real) => ScanFault::RootDepth {
-                key: key_of(root, 0),
+                key: key_of(weak(root), 0),
                 stated,
                 real,
             },
