@@ -1,16 +1,18 @@
 //! Scripts of calls, what is answered to each, and what the keeper holds after each batch.
 
-use crate::cores::{Weak, empty_core, look, merge, shape, zero};
-use crate::names::{Name, weak, who};
+use crate::cores::{Weak, empty_core, expire, is_shaped, look, merge, pin, shape_of, unpin, zero};
+use crate::faults::TestFault;
+use crate::names::{Name, weak};
 use crate::untold::Untold;
 use crate::values::{Cell, Root, leaf};
-use cd_block::{LineageFault, decode_descr};
+use cd_base::Hash256;
+use cd_block::{Descr, LineageFault, decode_descr};
+use cd_cell::Face;
 use cd_event::{Refusal, Reply};
 use cd_keeper::{Keeper, SteadyKeeper};
 use cd_record::decode;
 use cd_world::Totals;
 use std::alloc::Global;
-use std::test::Fail;
 
 /// A call.
 #[derive(Clone, Copy)]
@@ -71,36 +73,22 @@ pub(crate) struct Script {
 }
 
 /// Makes a call. Whether a look that was answered found what it should.
-fn act(alloc: Global, core: &mut Weak, worker: u16, deed: &Deed) -> Result<bool, Fail> {
+fn act(alloc: Global, core: &mut Weak, worker: u16, deed: &Deed) -> Result<bool, TestFault> {
     match *deed {
-        Deed::Zero(name, cells, tops) => zero(alloc, core, worker, name, cells, tops)?,
-        Deed::Pin(name) => {
-            let _ = core.pin(who(worker), name.id());
-        }
-        Deed::Look(pin, hash, due) => return Ok(look(core, worker, pin, hash, due)),
+        Deed::Zero(name, cells, tops) => zero(alloc, core, worker, name, cells, tops),
+        Deed::Pin(name) => Ok(pin(core, worker, name)),
+        Deed::Look(pin, hash, due) => Ok(look(core, worker, pin, hash, due)),
         Deed::Merge(pin, name, cells, root) => {
-            merge(alloc, core, worker, (pin, None), name, cells, (root, None))?
+            merge(alloc, core, worker, (pin, None), name, cells, (root, None))
         }
         Deed::MergeBoth(pins, name, cells, roots) => {
             let pins = (pins.0, Some(pins.1));
-            merge(
-                alloc,
-                core,
-                worker,
-                pins,
-                name,
-                cells,
-                (roots.0, Some(roots.1)),
-            )?
+            let roots = (roots.0, Some(roots.1));
+            merge(alloc, core, worker, pins, name, cells, roots)
         }
-        Deed::Unpin(pin) => {
-            let _ = core.unpin(who(worker), pin);
-        }
-        Deed::Expire(name) => {
-            let _ = core.expire(who(worker), name.id());
-        }
+        Deed::Unpin(pin) => Ok(unpin(core, worker, pin)),
+        Deed::Expire(name) => Ok(expire(core, worker, name)),
     }
-    Ok(true)
 }
 
 /// Whether this is the answer.
@@ -131,34 +119,46 @@ fn is_refusal(refusal: &Refusal, due: &Due) -> bool {
 
 /// Whether this is the refusal, which tells more.
 fn is_full_refusal(refusal: &Refusal, due: &Due) -> bool {
-    match *refusal {
-        Refusal::Lineage(fault) => match *due {
-            Due::Seqno(stated, due) => fault == LineageFault::Seqno { stated, due },
-            _ => false,
-        },
-        Refusal::ZeroHash { stated, real } => match *due {
-            Due::ZeroHash(name, root) => stated == weak(name) && real == weak(root),
-            _ => false,
-        },
+    match *due {
+        Due::Seqno(stated, due) => {
+            matches!(refusal, Refusal::Lineage(fault) if *fault == LineageFault::Seqno { stated, due })
+        }
+        Due::ZeroHash(name, root) => {
+            matches!(refusal, Refusal::ZeroHash { stated, real } if is_weak(stated, name) && is_weak(real, root))
+        }
+        Due::Clash(same, old, new) => is_clash(refusal, same, old, new),
+        Due::Full(cell, times) => {
+            matches!(refusal, Refusal::CountFull { hash, count } if is_weak(hash, cell) && *count == times)
+        }
+        Due::TopMissing(name) => {
+            matches!(refusal, Refusal::TopMissing { top } if *top == name.id())
+        }
+        _ => false,
+    }
+}
+
+/// Whether this is a clash of these two cells under one weak hash.
+fn is_clash(refusal: &Refusal, same: u8, old: &[u8], new: &[u8]) -> bool {
+    match refusal {
         Refusal::Clash {
             hash,
             stored,
             offered,
-        } => match *due {
-            Due::Clash(same, old, new) => {
-                hash == weak(same) && Some(stored) == leaf(old) && Some(offered) == leaf(new)
-            }
-            _ => false,
-        },
-        Refusal::CountFull { hash, count } => match *due {
-            Due::Full(cell, times) => hash == weak(cell) && count == times,
-            _ => false,
-        },
-        Refusal::TopMissing { top } => match *due {
-            Due::TopMissing(name) => top == name.id(),
-            _ => false,
-        },
+        } => is_weak(hash, same) && is_leaf(stored, old) && is_leaf(offered, new),
         _ => false,
+    }
+}
+
+/// Whether this is the weak hash of one byte.
+fn is_weak(hash: &Hash256, byte: u8) -> bool {
+    *hash == weak(byte)
+}
+
+/// Whether this is the face of a cell of these bytes without children.
+fn is_leaf(face: &Face, bytes: &[u8]) -> bool {
+    match leaf(bytes) {
+        Some(due) => *face == due,
+        None => false,
     }
 }
 
@@ -186,26 +186,27 @@ pub(crate) fn take(
     core: &mut Weak,
     step: &Step,
     failed: &mut u64,
-) -> Result<bool, Fail> {
-    let before = shape(core);
-    let mut found = act(alloc, core, step.0, &step.1)?;
-    if is_failed(core, step.0) {
-        if shape(core) != before {
-            return Ok(false);
-        }
-        *failed = failed.saturating_add(1);
-        found = act(alloc, core, step.0, &step.1)?;
+) -> Result<bool, TestFault> {
+    let before = shape_of(core);
+    let found = act(alloc, core, step.0, &step.1)?;
+    if !is_failed(core, step.0) {
+        return Ok(found && is_answered(core, step.0, &step.2));
     }
+    *failed = failed.saturating_add(1);
+    if !is_shaped(core, &before) {
+        return Ok(false);
+    }
+    let found = act(alloc, core, step.0, &step.1)?;
     Ok(found && is_answered(core, step.0, &step.2))
 }
 
 /// Makes the steps, and says whether all is as due.
-fn take_all(
+pub(crate) fn take_all(
     alloc: Global,
     core: &mut Weak,
     steps: &[Step],
     failed: &mut u64,
-) -> Result<bool, Fail> {
+) -> Result<bool, TestFault> {
     for step in steps {
         if !take(alloc, core, step, failed)? {
             return Ok(false);
@@ -218,66 +219,128 @@ fn take_all(
 pub(crate) fn play(
     alloc: Global,
     script: &Script,
-    fails: Vec<u64>,
+    fails: &[u64],
     failed: &mut u64,
-) -> Result<Untold, Fail> {
-    let mut core = empty_core(alloc, script.limit, fails);
+) -> Result<Untold, TestFault> {
+    let mut core = empty_core(alloc, script.limit, fails)?;
     if !take_all(alloc, &mut core, script.steps, failed)? {
-        return Err(Fail::from("another answer than is due"));
+        return Err(TestFault::Answer);
     }
-    let (keeper, journal) = core.close();
-    if journal.len() as u64 != (script.steps.len() as u64).saturating_add(*failed) {
-        return Err(Fail::from("another number of entries"));
+    let (keeper, entries) = closed(core);
+    if entries != (script.steps.len() as u64).saturating_add(*failed) {
+        return Err(TestFault::Entries);
     }
     Ok(keeper)
 }
 
+/// The keeper, and the number of entries.
+fn closed(core: Weak) -> (Untold, u64) {
+    let (keeper, journal) = core.close();
+    (keeper, journal.len() as u64)
+}
+
+/// Whether a record has this count.
+fn has_count(bytes: &[u8], due: u64) -> bool {
+    match decode(bytes) {
+        Ok(found) => found.count == due,
+        Err(_) => false,
+    }
+}
+
+/// Whether the keeper's next cell has this hash and count.
+fn has_cell_next(
+    keeper: &mut SteadyKeeper,
+    after: Option<Hash256>,
+    hash: u8,
+    count: u64,
+) -> Result<bool, TestFault> {
+    match keeper.next_cell(after)? {
+        Some((found, bytes)) => Ok(is_weak(&found, hash) && has_count(bytes.as_slice(), count)),
+        None => Ok(false),
+    }
+}
+
 /// Whether the keeper has exactly cells with these counts.
-pub(crate) fn has_cells(keeper: &mut SteadyKeeper, due: &[(u8, u64)]) -> Result<bool, Fail> {
+fn has_cells(keeper: &mut SteadyKeeper, due: &[(u8, u64)]) -> Result<bool, TestFault> {
     let mut after = None;
     for (hash, count) in due {
-        let Some((found, bytes)) = keeper.next_cell(after)? else {
-            return Ok(false);
-        };
-        if found != weak(*hash) || decode(bytes.as_slice())?.count != *count {
+        if !has_cell_next(keeper, after, *hash, *count)? {
             return Ok(false);
         }
-        after = Some(found);
+        after = Some(weak(*hash));
     }
     Ok(keeper.next_cell(after)?.is_none())
 }
 
+/// Whether a description is of this block.
+fn is_descr(descr: &Descr, name: Name, leaving: bool) -> bool {
+    descr.id == name.id() && descr.leaving == leaving
+}
+
+/// Whether the keeper's next description is of this block.
+fn has_block_next(
+    alloc: Global,
+    keeper: &mut SteadyKeeper,
+    after: Option<[u8; 80]>,
+    name: Name,
+    leaving: bool,
+) -> Result<bool, TestFault> {
+    let Some(found) = keeper.next_desc(after)? else {
+        return Ok(false);
+    };
+    let key = found.0;
+    match decode_descr(alloc, &key, found.1.as_slice()) {
+        Ok(descr) => Ok(is_descr(&descr, name, leaving)),
+        Err(_) => Ok(false),
+    }
+}
+
 /// Whether the keeper has exactly descriptions of these blocks, which stand in the order of their keys.
-pub(crate) fn has_blocks(
+fn has_blocks(
     alloc: Global,
     keeper: &mut SteadyKeeper,
     due: &[(Name, bool)],
-) -> Result<bool, Fail> {
+) -> Result<bool, TestFault> {
     let mut after = None;
     for (name, leaving) in due {
-        let Some(found) = keeper.next_desc(after)? else {
-            return Ok(false);
-        };
-        let key = found.0;
-        let descr = decode_descr(alloc, &key, found.1.as_slice())?;
-        if descr.id != name.id() || descr.leaving != *leaving {
+        if !has_block_next(alloc, keeper, after, *name, *leaving)? {
             return Ok(false);
         }
-        after = Some(key);
+        let id = name.id();
+        after = Some(id.to_key());
     }
     Ok(keeper.next_desc(after)?.is_none())
 }
 
+/// Whether the keeper holds this.
+pub(crate) fn has_all(
+    alloc: Global,
+    keeper: &mut SteadyKeeper,
+    held: &Held,
+) -> Result<bool, TestFault> {
+    if !has_cells(keeper, held.0)? {
+        return Ok(false);
+    }
+    has_blocks(alloc, keeper, held.1)
+}
+
+/// Whether the keeper held this after so many batches.
+fn held_at(alloc: Global, keeper: &Untold, batches: u64, held: &Held) -> Result<bool, TestFault> {
+    match keeper.inner.at(batches)? {
+        Some(mut keeper) => has_all(alloc, &mut keeper, held),
+        None => Ok(false),
+    }
+}
+
 /// Whether the keeper held this after its batches, one after another.
-pub(crate) fn has_trail(alloc: Global, keeper: &Untold, trail: &[Held]) -> Result<bool, Fail> {
+pub(crate) fn has_trail(alloc: Global, keeper: &Untold, trail: &[Held]) -> Result<bool, TestFault> {
     if keeper.inner.batches() != trail.len() as u64 {
         return Ok(false);
     }
     let mut batches = 0u64;
     for held in trail {
         batches = batches.saturating_add(1);
-        let mut keeper = keeper.inner.at(batches)?.ok_or("no such batch")?;
-        if !has_cells(&mut keeper, held.0)? || !has_blocks(alloc, &mut keeper, held.1)? {
+        if !held_at(alloc, keeper, batches, held)? {
             return Ok(false);
         }
     }
@@ -293,35 +356,50 @@ fn sum_of(cells: &[(u8, u64)]) -> u64 {
     sum
 }
 
+/// Whether these are the totals of what is held.
+fn are_totals(totals: &Totals, held: &Held) -> bool {
+    totals.blocks == held.1.len() as u64
+        && totals.cells == held.0.len() as u64
+        && totals.counts == sum_of(held.0)
+}
+
 /// Whether the totals after a script are those of what is held last.
-pub(crate) fn has_totals(alloc: Global, script: &Script) -> Result<bool, Fail> {
-    let mut failed = 0;
-    let mut core = empty_core(alloc, script.limit, Vec::new(alloc));
-    let taken = take_all(alloc, &mut core, script.steps, &mut failed)?;
-    let totals = core.totals()?;
-    let Some(held) = script.trail.last() else {
+fn has_totals(alloc: Global, script: &Script) -> Result<bool, TestFault> {
+    let mut core = empty_core(alloc, script.limit, &[])?;
+    if !take_all(alloc, &mut core, script.steps, &mut 0)? {
         return Ok(false);
-    };
-    let due = Totals {
-        blocks: held.1.len() as u64,
-        cells: held.0.len() as u64,
-        counts: sum_of(held.0),
-    };
-    Ok(taken && totals == due)
+    }
+    match script.trail {
+        [.., held] => Ok(has_totals_of(&mut core, held)),
+        [] => Ok(false),
+    }
+}
+
+/// Whether the core's totals are those of what is held.
+fn has_totals_of(core: &mut Weak, held: &Held) -> bool {
+    match core.totals() {
+        Ok(totals) => are_totals(&totals, held),
+        Err(_) => false,
+    }
+}
+
+/// Plays a script with one of the keeper's calls failing.
+fn plays_failing(alloc: Global, script: &Script, call: u64) -> Result<bool, TestFault> {
+    let mut failed = 0;
+    let keeper = play(alloc, script, &[call], &mut failed)?;
+    Ok(failed == 1 && has_trail(alloc, &keeper, script.trail)?)
 }
 
 /// Plays a script, and then with each of the keeper's calls failing in turn.
-pub(crate) fn play_all(alloc: Global, script: &Script) -> Result<bool, Fail> {
+pub(crate) fn play_all(alloc: Global, script: &Script) -> Result<bool, TestFault> {
     let mut failed = 0;
-    let keeper = play(alloc, script, Vec::new(alloc), &mut failed)?;
+    let keeper = play(alloc, script, &[], &mut failed)?;
     if failed != 0 || !has_trail(alloc, &keeper, script.trail)? || !has_totals(alloc, script)? {
         return Ok(false);
     }
     let calls = keeper.inner.reads().saturating_add(keeper.inner.batches());
     for call in 0..calls {
-        let mut failed = 0;
-        let keeper = play(alloc, script, [call].to_vec(alloc)?, &mut failed)?;
-        if failed != 1 || !has_trail(alloc, &keeper, script.trail)? {
+        if !plays_failing(alloc, script, call)? {
             return Ok(false);
         }
     }

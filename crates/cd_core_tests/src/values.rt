@@ -2,13 +2,13 @@
 ghost use Rattle.std.specs.Prelude.{◌≡◌, [], IfOk};
 ghost use Rattle.cd_cell.specs.Listings.{Fits};
 
+use crate::faults::TestFault;
 use crate::names::weak;
 use cd_boc_read::read_bag;
 use cd_cell::{Bag, Bits, ChildInfo, Face, Hash32, Mask, Prepared, WeakSum};
 use cd_prepare::{prepare_merged, prepare_update, prepare_zero};
 use cd_update::Update;
 use std::alloc::{AllocError, Global};
-use std::test::Fail;
 
 /// A state's root: the last byte of its weak hash, and its depth.
 pub(crate) type Root = (u8, u8);
@@ -65,7 +65,7 @@ fn push_ordinary(
 }
 
 /// The bag of these cells, the first of which is the root.
-fn bag_of<H: Hash32>(alloc: Global, cells: &[Cell]) -> Result<Bag<H>, Fail> {
+fn bag_of<H: Hash32>(alloc: Global, cells: &[Cell]) -> Result<Bag<H>, TestFault> {
     let mut text = Vec::new(alloc);
     for cell in cells {
         push_cell(&mut text, cell)?;
@@ -76,18 +76,18 @@ fn bag_of<H: Hash32>(alloc: Global, cells: &[Cell]) -> Result<Bag<H>, Fail> {
     bytes.extend_from_slice(text.as_slice())?;
     match read_bag(alloc, bytes.as_slice()) {
         Ok(bag) => Ok(bag),
-        Err(_) => Err(Fail::from("no bag")),
+        Err(_) => Err(TestFault::Value),
     }
 }
 
 /// The state with these cells, prepared.
-pub(crate) fn state<H: Hash32>(alloc: Global, cells: &[Cell]) -> Result<Prepared<H>, Fail>
+pub(crate) fn state<H: Hash32>(alloc: Global, cells: &[Cell]) -> Result<Prepared<H>, TestFault>
     ensures fits { IfOk result (λ value. Fits H.digest_of value.root value.cells []) }
 {
     let bag: Bag<H> = bag_of(alloc, cells)?;
     match prepare_zero(alloc, &bag) {
         Ok(prepared) => Ok(prepared),
-        Err(_) => Err(Fail::from("no state")),
+        Err(_) => Err(TestFault::Value),
     }
 }
 
@@ -106,10 +106,10 @@ pub(crate) fn update(
     cells: &[Cell],
     left: Root,
     right: Option<Root>,
-) -> Result<Prepared<WeakSum>, Fail> {
+) -> Result<Prepared<WeakSum>, TestFault> {
     let bag: Bag<WeakSum> = bag_of(alloc, cells)?;
     let Ok(update) = Update::of(&bag) else {
-        return Err(Fail::from("no update"));
+        return Err(TestFault::Value);
     };
     let prepared = match right {
         None => prepare_update(alloc, &update, &info(left), &[]),
@@ -117,7 +117,7 @@ pub(crate) fn update(
     };
     match prepared {
         Ok(prepared) => Ok(prepared),
-        Err(_) => Err(Fail::from("no value of the update")),
+        Err(_) => Err(TestFault::Value),
     }
 }
 
